@@ -1,0 +1,56 @@
+-- Tests: what a Bool-valued test says, and tests that say the same. Assumes nothing.
+use Prim.Native.Nat.{ℕ, _+_, _-_, _*_, _/_, _%_, _≤_, _<_}
+use mathlib.Core.Bool.{Bool, true, false, not, cond, _&&_, _||_}
+use mathlib.Core.Path.{_≡_, refl, sym, ap, ap₂, _∙_}
+use lib.Dec.{leb, ltb, eqb}
+use borrow.Author.Tests.{leb-true, leb-false, le-leb, lt-leb, eq-eqb, ne-eqb, not-true, not-false}
+use native.Mathlib.Nat.{not-le-of-lt}
+use native.Mathlib.Omega.{arith}
+
+-- two orders that imply each other have one test
+pub leb-same : (a b c d : ℕ) → (a ≤ b → c ≤ d) → (c ≤ d → a ≤ b) → leb a b ≡ leb c d
+leb-same a b c d f g = go (leb c d) refl
+  where
+    go : (t : Bool) → leb c d ≡ t → leb a b ≡ leb c d
+    go true e = le-leb a b (g (leb-true c d e)) ∙ sym e
+    go false e = lt-leb a b (lt (leb-false c d e)) ∙ sym e
+      where
+        lt : d < c → b < a
+        lt h = leb-false a b (no (leb a b) refl)
+          where
+            no : (t : Bool) → leb a b ≡ t → leb a b ≡ false
+            no true q = absurd (not-le-of-lt h (f (leb-true a b q)))
+            no false q = q
+
+-- what a call's answer r, which is the test b, tells of b in the two arms of `if !r`
+pub failed : {r b : Bool} → r ≡ b → not r ≡ true → b ≡ false
+failed p q = sym p ∙ not-true _ q
+
+pub passed : {r b : Bool} → r ≡ b → not r ≡ false → b ≡ true
+passed p q = sym p ∙ not-false _ q
+
+-- the same of a number r that was read, which is the field x, and was compared with k
+pub is : {r x : ℕ} (k : ℕ) → r ≡ x → r ≡ k → eqb x k ≡ true
+is k p q = eq-eqb _ k (sym p ∙ q)
+
+pub is-not : {r x : ℕ} (k : ℕ) → r ≡ x → (r ≡ k → ⊥) → eqb x k ≡ false
+is-not k p q = ne-eqb _ k (λ e. q (p ∙ e))
+
+-- the parts of a conjunction, and one that fails
+pub and-left : (a b : Bool) → a && b ≡ true → a ≡ true
+and-left true b e = refl
+and-left false b e = e
+
+pub and-right : (a b : Bool) → a && b ≡ true → b ≡ true
+and-right true b e = e
+and-right false b e = cc
+
+pub and-both : (a b : Bool) → a ≡ true → b ≡ true → a && b ≡ true
+and-both a b p q = rw (p, q)
+
+pub left-fails : (a b : Bool) → a ≡ false → a && b ≡ false
+left-fails a b e = rw e
+
+pub right-fails : (a b : Bool) → b ≡ false → a && b ≡ false
+right-fails true b e = e
+right-fails false b e = refl

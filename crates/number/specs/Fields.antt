@@ -1,0 +1,16 @@
+-- Little-endian fields of a list of bytes. Past the list's end a byte is 0.
+use Prim.Native.Nat.{ℕ, _+_, _*_, _^_}
+use mathlib.Core.List.{List}
+use lib.ListN.{getD}
+
+-- two bytes from `at` on, the least significant first
+unfoldable pub le16 : List ℕ → ℕ → ℕ
+le16 s at = getD s at 0 + 0x100 * getD s (at + 1) 0
+
+-- four bytes
+unfoldable pub le32 : List ℕ → ℕ → ℕ
+le32 s at = le16 s at + 0x10000 * le16 s (at + 2)
+
+-- eight bytes
+unfoldable pub le64 : List ℕ → ℕ → ℕ
+le64 s at = le32 s at + 0x100000000 * le32 s (at + 4)

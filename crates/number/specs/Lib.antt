@@ -1,0 +1,5 @@
+pub mod Fields
+pub mod Ranges
+pub mod Blocks
+pub mod Bytes
+pub mod Frame
