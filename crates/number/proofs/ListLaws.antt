@@ -9,7 +9,11 @@ use native.Mathlib.Numerals.{add-one}
 use native.Mathlib.Decide.{ℕ-discrete, decLt}
 use lib.ListN.{length, getD, take, drop, set, length-set, length-take, length-drop, drop-of-length-le}
 use lib.Seq.{ext-getD, getD-take, getD-drop, getD-set-same, getD-set-other, sets, drop-cons, drop-length, take-nil, take-all}
-use Rattle.number.specs.Bytes.{bytes, Outside, copied}
+use lib.Dec.{eqb}
+use mathlib.Core.Bool.{Bool, true, false, _&&_, true≢false}
+use borrow.Author.Tests.{eq-eqb, ne-eqb, eqb-true}
+use Rattle.number.specs.Bytes.{bytes, Outside, copied, sameBytes}
+use Rattle.number.proofs.Tests.{and-left, and-right, left-fails}
 
 -- ---- a place inside or outside an interval
 
@@ -178,3 +182,41 @@ copied-turn s now source target n i e h a =
     unread : (source + n ≤ target) ⊎ (target + n ≤ source) → getD (copied s source target i) (source + i) 0 ≡ getD s (source + i) 0
     unread (inl p) = copied-out s source target i (source + i) (λ m k e. omega arith)
     unread (inr p) = copied-out s source target i (source + i) (λ m k e. omega arith)
+
+-- ---- the same bytes
+
+pub same-refl : (l : List ℕ) → sameBytes l l ≡ true
+unfolding sameBytes
+same-refl [] = refl
+same-refl (a ∷ l) = rw (eq-eqb a a refl) (same-refl l)
+
+pub same-is : (a b : List ℕ) → sameBytes a b ≡ true → a ≡ b
+unfolding sameBytes
+same-is [] [] e = refl
+same-is [] (y ∷ b) e = absurd (true≢false (sym e))
+same-is (x ∷ a) [] e = absurd (true≢false (sym e))
+same-is (x ∷ a) (y ∷ b) e =
+    let p : x ≡ y = eqb-true x y (and-left (eqb x y) (sameBytes a b) e) in
+    let q : a ≡ b = same-is a b (and-right (eqb x y) (sameBytes a b) e) in
+    cc
+
+pub same-lengths : (a b : List ℕ) → (length a ≡ length b → ⊥) → sameBytes a b ≡ false
+same-lengths a b h = go (sameBytes a b) refl
+  where
+    go : (t : Bool) → sameBytes a b ≡ t → t ≡ false
+    go true e = absurd (h (ap length (same-is a b e)))
+    go false e = refl
+
+-- as a loop compares them: what is left decides, a byte more, a difference, the end
+module _ (a b : List ℕ) (i : ℕ) (h : i < length a) (k : i < length b) where
+  pub same-step : getD a i 0 ≡ getD b i 0 → sameBytes (drop i a) (drop i b) ≡ sameBytes (drop (i + 1) a) (drop (i + 1) b)
+  unfolding sameBytes
+  same-step e = rw (add-one, drop-cons a i 0 h, drop-cons b i 0 k, eq-eqb (getD a i 0) (getD b i 0) e)
+
+  pub same-stop : (getD a i 0 ≡ getD b i 0 → ⊥) → sameBytes (drop i a) (drop i b) ≡ false
+  unfolding sameBytes
+  same-stop e = rw (drop-cons a i 0 h, drop-cons b i 0 k) (left-fails (eqb (getD a i 0) (getD b i 0)) _ (ne-eqb _ _ e))
+
+pub same-end : (a b : List ℕ) (i : ℕ) → length a ≡ length b → length a ≤ i → sameBytes (drop i a) (drop i b) ≡ true
+unfolding sameBytes
+same-end a b i e h = rw (drop-of-length-le a h, drop-of-length-le b {i = i} (omega arith))

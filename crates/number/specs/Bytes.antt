@@ -3,7 +3,7 @@ use Prim.Native.Nat.{ℕ, zero, suc, _+_, _-_, _≤_, _<_}
 use mathlib.Core.Bool.{Bool, true, false, _&&_, cond}
 use mathlib.Core.Logic.{_⊎_}
 use mathlib.Core.List.{List, [], _∷_}
-use lib.Dec.{leb, ltb}
+use lib.Dec.{leb, ltb, eqb}
 use lib.ListN.{length, getD, set}
 
 -- the n bytes from x on: f x, f (x + 1), ..
@@ -27,3 +27,10 @@ overlay f x l y = cond (within x (length l) y) (getD l (y - x) 0) (f y)
 unfoldable pub copied : List ℕ → (source target n : ℕ) → List ℕ
 copied s source target zero = s
 copied s source target (suc n) = set (copied s source target n) (target + n) (getD s (source + n) 0)
+
+-- two lists have the same bytes
+unfoldable pub sameBytes : List ℕ → List ℕ → Bool
+sameBytes [] [] = true
+sameBytes [] (b ∷ bs) = false
+sameBytes (a ∷ rest) [] = false
+sameBytes (a ∷ rest) (b ∷ bs) = eqb a b && sameBytes rest bs

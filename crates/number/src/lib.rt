@@ -3,6 +3,7 @@
 pub mod blocks;
 pub mod fields;
 pub mod ranges;
+pub mod runs;
 
 // A range of bytes: where it starts, and how many it has.
 pub struct Range {
