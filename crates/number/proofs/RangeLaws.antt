@@ -8,7 +8,7 @@ use native.Mathlib.Omega.{arith}
 use lib.Dec.{leb}
 use borrow.Author.Tests.{leb-true, lt-leb}
 use Rattle.number.specs.declared.Range.{Range}
-use Rattle.number.specs.Ranges.{inside, apart, fits, clear, placed}
+use Rattle.number.specs.Ranges.{inside, apart, Apart, fits, clear, placed}
 use Rattle.number.proofs.Tests.{leb-same, and-left, and-right, left-fails, right-fails}
 
 module _ (n : ℕ) (a : Range) (rest : List Range) (e : placed n (a ∷ rest) ≡ true) where
@@ -31,10 +31,6 @@ fits-some n a e = leb-true 1 (a .size) (and-left _ _ e)
 pub fits-ends : (n : ℕ) (a : Range) → fits n a ≡ true → a .offset + a .size ≤ n
 unfolding fits inside
 fits-ends n a e = leb-true (a .offset + a .size) n (and-right (leb 1 (a .size)) _ e)
-
--- ranges that are apart, as orders
-abbrev pub Apart : Range → Range → Type 0
-Apart a b = (a .offset + a .size ≤ b .offset) ⊎ (b .offset + b .size ≤ a .offset)
 
 pub apart-is : (a b : Range) → apart a b ≡ true → Apart a b
 unfolding apart inside

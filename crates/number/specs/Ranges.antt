@@ -1,7 +1,8 @@
 -- Ranges of bytes, by whole numbers: no sum wraps.
-use Prim.Native.Nat.{ℕ, _+_, _*_}
+use Prim.Native.Nat.{ℕ, _+_, _*_, _≤_}
 use mathlib.Core.Bool.{Bool, true, _&&_, _||_}
 use mathlib.Core.List.{List, [], _∷_}
+use mathlib.Core.Logic.{_⊎_}
 use lib.ListN.{take, drop}
 use lib.Dec.{leb}
 use Rattle.number.specs.declared.Range.{Range}
@@ -13,6 +14,10 @@ inside offset size whole = leb (offset + size) whole
 -- two ranges have no byte in common: one ends by the start of the other
 unfoldable pub apart : Range → Range → Bool
 apart a b = inside (a .offset) (a .size) (b .offset) || inside (b .offset) (b .size) (a .offset)
+
+-- the same as orders of numbers
+abbrev pub Apart : Range → Range → Type 0
+Apart a b = (a .offset + a .size ≤ b .offset) ⊎ (b .offset + b .size ≤ a .offset)
 
 -- a range has at least one byte and lies in the whole
 unfoldable pub fits : (whole : ℕ) → Range → Bool
