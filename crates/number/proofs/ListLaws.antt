@@ -8,7 +8,7 @@ use native.Mathlib.Nat.{add-zero}
 use native.Mathlib.Numerals.{add-one}
 use native.Mathlib.Decide.{ℕ-discrete, decLt}
 use lib.ListN.{length, getD, take, drop, set, length-set, length-take, length-drop, drop-of-length-le}
-use lib.Seq.{ext-getD, getD-take, getD-drop, getD-set-same, getD-set-other, sets, drop-cons, drop-length, take-nil, take-all}
+use lib.Seq.{ext-getD, getD-take, getD-drop, getD-set-same, getD-set-other, sets, length-sets, drop-cons, drop-length, take-nil, take-all}
 use lib.Dec.{eqb}
 use mathlib.Core.Bool.{Bool, true, false, _&&_, true≢false}
 use borrow.Author.Tests.{eq-eqb, ne-eqb, eqb-true}
@@ -220,3 +220,58 @@ module _ (a b : List ℕ) (i : ℕ) (h : i < length a) (k : i < length b) where
 pub same-end : (a b : List ℕ) (i : ℕ) → length a ≡ length b → length a ≤ i → sameBytes (drop i a) (drop i b) ≡ true
 unfolding sameBytes
 same-end a b i e h = rw (drop-of-length-le a h, drop-of-length-le b {i = i} (omega arith))
+
+-- ---- stores and copies said as one
+
+-- a list is known by what stands in n places from x on, and elsewhere
+pub sets-is : (s : List ℕ) (x : ℕ) (l out : List ℕ) → x + length l ≤ length s → length out ≡ length s
+    → ((m : ℕ) → m < length l → getD out (x + m) 0 ≡ getD l m 0) → ((i : ℕ) → Outside x (length l) i → getD out i 0 ≡ getD s i 0)
+    → out ≡ sets s x l
+sets-is s x l out h n inner outer =
+    ext-getD 0 out (sets s x l) (n ∙ sym (length-sets s x l)) (λ i k. go i (outside-or-in x (length l) i))
+  where
+    go : (i : ℕ) → Outside x (length l) i ⊎ ((x ≤ i) × (i < x + length l)) → getD out i 0 ≡ getD (sets s x l) i 0
+    go i (inl o) = outer i o ∙ sym (sets-out s x l i o)
+    go i (inr (p, q)) =
+        let e : i ≡ x + (i - x) = omega arith in
+        let k : i - x < length l = omega arith in
+        ap (λ (j : ℕ). getD out j 0) e ∙ inner (i - x) k ∙ sym (sets-in s x l (i - x) h k) ∙ ap (λ (j : ℕ). getD (sets s x l) j 0) (sym e)
+
+-- a store into what was stored
+pub set-sets : (s : List ℕ) (x : ℕ) (l : List ℕ) (k v : ℕ) → x + length l ≤ length s → k < length l
+    → set (sets s x l) (x + k) v ≡ sets s x (set l k v)
+set-sets s x l k v h q =
+    sets-is s x (set l k v) (set (sets s x l) (x + k) v)
+    (rw length-set h) (length-set (sets s x l) (x + k) v ∙ length-sets s x l)
+    (λ m p. inner m (rw length-set at p) (ℕ-discrete m k)) (λ i o. outer i (rw length-set at o))
+  where
+    inner : (m : ℕ) → m < length l → Dec (m ≡ k) → getD (set (sets s x l) (x + k) v) (x + m) 0 ≡ getD (set l k v) m 0
+    inner m p (yes e) =
+        ap (λ (j : ℕ). getD (set (sets s x l) (x + k) v) (x + j) 0) e
+        ∙ getD-set-same (sets s x l) (x + k) v 0 (rw length-sets (omega arith))
+        ∙ sym (getD-set-same l k v 0 q)
+        ∙ ap (λ (j : ℕ). getD (set l k v) j 0) (sym e)
+    inner m p (no ne) =
+        getD-set-other (sets s x l) (x + k) (x + m) v 0 (λ e. ne (omega arith))
+        ∙ sets-in s x l m h p
+        ∙ sym (getD-set-other l k m v 0 ne)
+
+    outer : (i : ℕ) → Outside x (length l) i → getD (set (sets s x l) (x + k) v) i 0 ≡ getD s i 0
+    outer i o = getD-set-other (sets s x l) (x + k) i v 0 (apart o) ∙ sets-out s x l i o
+      where
+        apart : Outside x (length l) i → i ≢ x + k
+        apart (inl p) e = omega arith
+        apart (inr p) e = omega arith
+
+-- a copy is a store of the part that is copied
+pub copied-sets : (s : List ℕ) (source target n : ℕ) → source + n ≤ length s → target + n ≤ length s
+    → copied s source target n ≡ sets s target (take n (drop source s))
+copied-sets s source target n h k =
+    let len : length (take n (drop source s)) ≡ n = length-part s source n h in
+    sets-is s target (take n (drop source s)) (copied s source target n) (rw len k) (length-copied s source target n)
+    (λ m p. let q : m < n = rw len at p in copied-in s source target n m q k ∙ sym (getD-part s source n m q))
+    (λ i o. copied-out s source target n i (apart i (rw len at o)))
+  where
+    apart : (i : ℕ) → Outside target n i → (m : ℕ) → m < n → i ≢ target + m
+    apart i (inl p) m q e = omega arith
+    apart i (inr p) m q e = omega arith
