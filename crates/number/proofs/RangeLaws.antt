@@ -2,8 +2,8 @@
 use Prim.Native.Nat.{ℕ, _+_, _-_, _*_, _/_, _≤_, _<_}
 use mathlib.Core.Bool.{Bool, true, false, _&&_, _||_}
 use mathlib.Core.List.{List, [], _∷_}
-use mathlib.Core.Logic.{_⊎_, inl, inr}
-use mathlib.Core.Path.{_≡_, refl, sym, ap₂, _∙_}
+use mathlib.Core.Logic.{inl, inr}
+use mathlib.Core.Path.{_≡_, refl, sym, ap₂}
 use native.Mathlib.Omega.{arith}
 use lib.Dec.{leb}
 use borrow.Author.Tests.{leb-true, lt-leb}
@@ -52,6 +52,37 @@ module _ (a b : Range) (rest : List Range) (e : clear a (b ∷ rest) ≡ true) w
   pub clear-rest : clear a rest ≡ true
   unfolding clear
   clear-rest = and-left (clear a rest) (apart a b) e
+
+-- all that placed ranges keep to, range by range
+abbrev pub AllApart : Range → List Range → Type 0
+AllApart a [] = Unit {0}
+AllApart a (b ∷ rest) = Apart a b × AllApart a rest
+
+pub record First (n : ℕ) (a : Range) (rest : List Range) : Type 0 where
+  pub some : 1 ≤ a .size
+  pub ends : a .offset + a .size ≤ n
+  pub apart : AllApart a rest
+
+abbrev pub Laid : ℕ → List Range → Type 0
+Laid n [] = Unit {0}
+Laid n (a ∷ rest) = First n a rest × Laid n rest
+
+pub all-apart : (a : Range) (rest : List Range) → clear a rest ≡ true → AllApart a rest
+all-apart a [] e = tt
+all-apart a (b ∷ rest) e = (clear-first a b rest e, all-apart a rest (clear-rest a b rest e))
+
+pub laid : (n : ℕ) (ranges : List Range) → placed n ranges ≡ true → Laid n ranges
+laid n [] e = tt
+laid n (a ∷ rest) e =
+    let f = placed-fits n a rest e in (
+      record { some = fits-some n a f; ends = fits-ends n a f; apart = all-apart a rest (placed-clear n a rest e) },
+      laid n rest (placed-rest n a rest e),
+    )
+
+-- a range that is apart from one at the start lies past it
+pub past-first : (n : ℕ) (a : Range) → 1 ≤ a .size → Apart (record { offset = 0; size = n }) a → n ≤ a .offset
+past-first n a h (inl k) = omega arith
+past-first n a h (inr k) = absurd (omega arith)
 
 -- ranges of which one does not fit are not placed
 module _ (n : ℕ) (a : Range) (rest : List Range) where
