@@ -1,0 +1,15 @@
+-- `layout::descriptors::pieces_placed` meets its contract. Assumes nothing.
+use borrow.Author.Needs.{needs}
+use Rattle.layout.specs.Descriptors.{piecesPlaced}
+use Rattle.layout.proofs.descriptors.pieces_placed.Statement.{statement}
+use Rattle.layout.proofs.descriptors.pieces_placed.Tie as tie
+
+four-placed-requires : tie.Need-four-placed-requires
+four-placed-requires c κs = search needs
+
+returns : tie.Need-returns
+unfolding piecesPlaced
+returns c = cc
+
+pub pieces-placed-spec : {M : Type 1} → statement M
+pieces-placed-spec = tie.close (tie.spec four-placed-requires returns)

@@ -1,0 +1,51 @@
+-- `layout::headers::disa_header` meets its contract. Assumes nothing.
+use borrow.Author.Needs.{needs}
+use Rattle.layout.specs.Headers.{disaHeader}
+use Rattle.layout.proofs.headers.disa_header.Statement.{statement}
+use Rattle.layout.proofs.headers.disa_header.Tie as tie
+
+field4-requires : tie.Need-field4-requires
+field4-requires c κs = search needs
+
+field8-requires : tie.Need-field8-requires
+field8-requires c κs = search needs
+
+byte-requires : tie.Need-byte-requires
+byte-requires c κs = search needs
+
+cast-t6 : tie.Need-cast-t6
+cast-t6 c = search needs
+
+field8-requires-2 : tie.Need-field8-requires-2
+field8-requires-2 c κs = search needs
+
+field8-requires-3 : tie.Need-field8-requires-3
+field8-requires-3 c κs = search needs
+
+range-at-requires : tie.Need-range-at-requires
+range-at-requires c κs = search needs
+
+range-at-requires-2 : tie.Need-range-at-requires-2
+range-at-requires-2 c κs = search needs
+
+slot-b-requires : tie.Need-slot-b-requires
+slot-b-requires c κs = search needs
+
+returns : tie.Need-returns
+unfolding disaHeader
+returns c = cc
+
+pub disa-header-spec : {M : Type 1} → statement M
+disa-header-spec =
+    tie.close
+    (tie.spec
+    field4-requires
+    field8-requires
+    byte-requires
+    cast-t6
+    field8-requires-2
+    field8-requires-3
+    range-at-requires
+    range-at-requires-2
+    slot-b-requires
+    returns)

@@ -1,0 +1,16 @@
+-- `layout::opening::judge_slot` meets its contract. Assumes nothing.
+use borrow.Author.Needs.{needs}
+use Rattle.layout.proofs.opening.judge_slot.Statement.{statement}
+use Rattle.layout.proofs.opening.judge_slot.Tie as tie
+
+part-of-requires : tie.Need-part-of-requires
+part-of-requires c κs = search needs
+
+judge-partition-requires : tie.Need-judge-partition-requires
+judge-partition-requires c κs = search needs
+
+returns : tie.Need-returns
+returns c = cc
+
+pub judge-slot-spec : {M : Type 1} → statement M
+judge-slot-spec = tie.close (tie.spec part-of-requires judge-partition-requires returns)

@@ -1,0 +1,161 @@
+// The header's fields and the rules on them: refusals 2 to 4.
+use super::Header;
+use super::JudgedHeader;
+use super::Kind;
+use super::Refusal;
+use super::Slot;
+use super::magic::opens_with;
+use number::Range;
+use number::fields::byte;
+use number::fields::field4;
+use number::fields::field8;
+use number::ranges::fits_in;
+use number::ranges::five_placed;
+use number::ranges::four_placed;
+use number::ranges::two_placed;
+ghost use mathlib.Core.Path.{_≡_};
+ghost use Prim.Native.Nat.{_+_, _<_, _^_};
+ghost use Rattle.layout.specs.Headers.{rangeAt, noSlot, slotB, disaHeader, diffHeader, selectionAllowed, geometryAllowed, judgedFields, judgedHeader};
+
+// The most bytes that a table may have.
+const TABLE_LIMIT: u64 = 0x1000;
+
+// An offset and a size, one after the other.
+pub(crate) fn range_at(s: &[u8], at: usize) -> Range
+    requires { ⌜ at + 16 < 2 ^ 64 ⌝ }
+    ensures { λ r. ⌜ r ≡ rangeAt (now (s .entry)) at ⌝ }
+{
+    Range {
+        offset: field8(s, at),
+        size: field8(s, at + 8),
+    }
+}
+
+fn no_slot() -> Slot
+    ensures { λ r. ⌜ r ≡ noSlot ⌝ }
+{
+    Slot {
+        descriptor: Range { offset: 0, size: 0 },
+        partition: Range { offset: 0, size: 0 },
+    }
+}
+
+// DISA's fields of partition B, which are not read when the count is 1.
+fn slot_b(head: &[u8], count: u32) -> Slot
+    ensures { λ r. ⌜ r ≡ slotB (now (head .entry)) count ⌝ }
+{
+    if count == 2 {
+        Slot {
+            descriptor: range_at(head, 0x38),
+            partition: range_at(head, 0x58),
+        }
+    } else {
+        no_slot()
+    }
+}
+
+fn disa_header(head: &[u8]) -> Header
+    ensures { λ r. ⌜ r ≡ disaHeader (now (head .entry)) ⌝ }
+{
+    let count = field4(head, 0x08);
+    let size = field8(head, 0x20);
+    Header {
+        kind: Kind::Disa,
+        count,
+        flag: byte(head, 0x68) as u32,
+        secondary: Range {
+            offset: field8(head, 0x10),
+            size,
+        },
+        primary: Range {
+            offset: field8(head, 0x18),
+            size,
+        },
+        a: Slot {
+            descriptor: range_at(head, 0x28),
+            partition: range_at(head, 0x48),
+        },
+        b: slot_b(head, count),
+    }
+}
+
+fn diff_header(head: &[u8]) -> Header
+    ensures { λ r. ⌜ r ≡ diffHeader (now (head .entry)) ⌝ }
+{
+    let size = field8(head, 0x18);
+    Header {
+        kind: Kind::Diff,
+        count: 1,
+        flag: field4(head, 0x30),
+        secondary: Range {
+            offset: field8(head, 0x08),
+            size,
+        },
+        primary: Range {
+            offset: field8(head, 0x10),
+            size,
+        },
+        a: Slot {
+            descriptor: Range { offset: 0, size },
+            partition: range_at(head, 0x20),
+        },
+        b: no_slot(),
+    }
+}
+
+// 3: the partition count and the flag.
+fn selection_allowed(h: Header) -> bool
+    ensures { λ r. ⌜ r ≡ selectionAllowed h ⌝ }
+{
+    ((h.count == 1) | (h.count == 2)) & (h.flag <= 1)
+}
+
+// 4: the first 0x200 bytes, both tables and the partitions in the image, the descriptors in the table.
+fn geometry_allowed(length: u64, h: Header) -> bool
+    ensures { λ r. ⌜ r ≡ geometryAllowed length h ⌝ }
+{
+    let front = Range {
+        offset: 0,
+        size: 0x200,
+    };
+    let secondary = h.secondary;
+    let primary = h.primary;
+    let a = h.a;
+    let b = h.b;
+    let small = primary.size <= TABLE_LIMIT;
+    if h.count == 2 {
+        small
+            & five_placed(length, front, secondary, primary, a.partition, b.partition)
+            & two_placed(primary.size, a.descriptor, b.descriptor)
+    } else {
+        small
+            & four_placed(length, front, secondary, primary, a.partition)
+            & fits_in(primary.size, a.descriptor)
+    }
+}
+
+// 3, then 4.
+fn judge_fields(length: u64, h: Header) -> JudgedHeader
+    ensures { λ r. ⌜ r ≡ judgedFields length h ⌝ }
+{
+    if !selection_allowed(h) {
+        return JudgedHeader::BadHeader(Refusal::Selection);
+    }
+    if !geometry_allowed(length, h) {
+        return JudgedHeader::BadHeader(Refusal::Geometry);
+    }
+    JudgedHeader::GoodHeader(h)
+}
+
+// 2, then 3 and 4, of an image's length and the header's 256 bytes.
+pub(crate) fn judge_header(length: u64, head: &[u8]) -> JudgedHeader
+    ensures { λ r. ⌜ r ≡ judgedHeader length (now (head .entry)) ⌝ }
+{
+    if opens_with(head, b"DISA\0\0\x04\0") {
+        judge_fields(length, disa_header(head))
+    } else if opens_with(head, b"DIFF\0\0\x03\0") {
+        judge_fields(length, diff_header(head))
+    } else {
+        JudgedHeader::BadHeader(Refusal::Format)
+    }
+}

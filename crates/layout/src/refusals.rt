@@ -1,0 +1,47 @@
+// The number of each refusal, and the block number that it carries.
+use super::Refusal;
+ghost use mathlib.Core.Path.{_≡_};
+ghost use Rattle.layout.specs.Refusals.{number, carried};
+
+pub fn number_of(r: Refusal) -> u64
+    ensures { λ n. ⌜ n ≡ number r ⌝ }
+{
+    match r {
+        Refusal::Length => 1,
+        Refusal::Format => 2,
+        Refusal::Selection => 3,
+        Refusal::Geometry => 4,
+        Refusal::TableHash => 5,
+        Refusal::Descriptor => 6,
+        Refusal::Placement => 7,
+        Refusal::NoPartition => 8,
+        Refusal::OutOfRange => 9,
+        Refusal::Unverified(_) => 10,
+        Refusal::UnverifiedAbove(_) => 11,
+        Refusal::ExternalLevel => 12,
+        Refusal::SessionState => 13,
+        Refusal::Stale => 14,
+    }
+}
+
+// The lowest block number of level 4 to which 10 or 11 applies, and 0 for the others.
+pub fn carried_by(r: Refusal) -> u64
+    ensures { λ n. ⌜ n ≡ carried r ⌝ }
+{
+    match r {
+        Refusal::Length => 0,
+        Refusal::Format => 0,
+        Refusal::Selection => 0,
+        Refusal::Geometry => 0,
+        Refusal::TableHash => 0,
+        Refusal::Descriptor => 0,
+        Refusal::Placement => 0,
+        Refusal::NoPartition => 0,
+        Refusal::OutOfRange => 0,
+        Refusal::Unverified(block) => block,
+        Refusal::UnverifiedAbove(block) => block,
+        Refusal::ExternalLevel => 0,
+        Refusal::SessionState => 0,
+        Refusal::Stale => 0,
+    }
+}
