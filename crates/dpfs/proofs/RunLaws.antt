@@ -1,0 +1,114 @@
+-- Runs of level 3 that stand in one piece of the image. Assumes nothing.
+use mathlib.Core.Path.{_≡_, sym, ap, _∙_}
+use mathlib.Core.List.{List}
+use mathlib.Core.Bool.{Bool, true, false, cond}
+use Prim.Native.Nat.{ℕ, _+_, _-_, _*_, _≤_, _<_, min}
+use native.Mathlib.Omega.{arith}
+use native.Mathlib.Nat.{suc-mul, add-sub-cancel-left}
+use native.Mathlib.Numerals.{add-one}
+use lib.ListN.{length, getD, take, drop, length-take, length-drop}
+use lib.Pow.{pow-mono, shr-le}
+use Rattle.number.specs.declared.Level.{Level}
+use Rattle.number.specs.Blocks.{blockSize, blockOf}
+use Rattle.number.specs.Bytes.{bytes}
+use Rattle.number.proofs.ListLaws.{length-part, getD-part, bytes-is}
+use Rattle.number.proofs.BlockLaws.{block-starts, block-ends, block-of-byte}
+use Rattle.dpfs.specs.declared.Tree.{Tree}
+use Rattle.dpfs.specs.Tree.{place, levelByte, select3, content}
+use Rattle.dpfs.specs.Rules.{WellPlaced, runLength}
+
+-- ---- how long a run is
+
+pub size-small : (l : Level) → l .log ≤ 16 → blockSize l ≤ 0x10000
+unfolding blockSize
+size-small l h = pow-mono h
+
+pub block-small : (l : Level) (y : ℕ) → blockOf l y ≤ y
+unfolding blockOf blockSize
+block-small l y = shr-le y (l .log)
+
+pub block-next : (l : Level) (y b size : ℕ) → b ≡ blockOf l y → size ≡ blockSize l → (b + 1) * size ≡ blockOf l y * blockSize l + blockSize l
+block-next l y b size p q = rw (p, q, add-one) (suc-mul (blockOf l y) (blockSize l))
+
+module _ (tree : Tree) (x end : ℕ) (h : x < end) where
+  -- a run has a byte, ends where it is told to, and stays in its first byte's block
+  pub run-some : 0 < runLength tree x end
+  unfolding runLength
+  run-some = omega (arith, block-ends (tree .level3) x)
+
+  pub run-ends : x + runLength tree x end ≤ end
+  unfolding runLength
+  run-ends = omega arith
+
+  pub run-block : (k : ℕ) → k < runLength tree x end → blockOf (tree .level3) (x + k) ≡ blockOf (tree .level3) x
+  unfolding runLength
+  run-block k l =
+      block-of-byte (tree .level3) (blockOf (tree .level3) x) (x + k) (omega (arith, block-starts (tree .level3) x)) (omega arith)
+
+-- bytes that a run has room for
+pub run-room : (tree : Tree) (x end n : ℕ) → 0 < n → n ≤ runLength tree x end → x + n ≤ end
+unfolding runLength
+run-room tree x end n some h = omega arith
+
+-- a run does not get shorter where it may go further
+pub run-further : (tree : Tree) (x end limit : ℕ) → end ≤ limit → runLength tree x end ≤ runLength tree x limit
+unfolding runLength
+run-further tree x end limit h = omega arith
+
+pub run-end-is : (tree : Tree) (x end next : ℕ) → x ≤ end → next ≡ blockOf (tree .level3) x * blockSize (tree .level3) + blockSize (tree .level3)
+    → min end next ≡ x + runLength tree x end
+unfolding runLength
+run-end-is tree x end next h e = omega (arith, block-ends (tree .level3) x)
+
+-- ---- what it reads
+
+half-byte : (image : List ℕ) (l : Level) (second : Bool) (y : ℕ) → y < l .size
+    → getD (cond second (take (l .size) (drop (l .offset + l .size) image)) (take (l .size) (drop (l .offset) image))) y 0 ≡ getD image (place l second y) 0
+unfolding place
+half-byte image l true y h = getD-part image (l .offset + l .size) (l .size) y h
+half-byte image l false y h =
+    let e : l .offset + y ≡ l .offset + 0 + y = omega arith in
+    getD-part image (l .offset) (l .size) y h ∙ ap (λ (i : ℕ). getD image i 0) e
+
+half-length : (image : List ℕ) (l : Level) (second : Bool) → l .offset + 2 * l .size ≤ length image
+    → length (cond second (take (l .size) (drop (l .offset + l .size) image)) (take (l .size) (drop (l .offset) image))) ≡ l .size
+half-length image l true h = length-part image (l .offset + l .size) (l .size) (omega arith)
+half-length image l false h = length-part image (l .offset) (l .size) (omega arith)
+
+-- the part of the half that the bit names is the run of level 3's bytes, where they all have the bit's block
+run-bytes : (tree : Tree) (image : List ℕ) (half bit : Bool) (x n : ℕ)
+    → tree .level3 .offset + 2 * tree .level3 .size ≤ length image → x + n ≤ tree .level3 .size
+    → bit ≡ select3 tree image half (blockOf (tree .level3) x) → ((k : ℕ) → k < n → blockOf (tree .level3) (x + k) ≡ blockOf (tree .level3) x)
+    → take n (drop x (cond bit (take (tree .level3 .size) (drop (tree .level3 .offset + tree .level3 .size) image)) (take (tree .level3 .size) (drop (tree .level3 .offset) image))))
+    ≡ bytes (content tree image half) x n
+unfolding content levelByte
+run-bytes tree image half bit x n inside ends e one =
+    let l = tree .level3 in
+    let whole : List ℕ = cond bit (take (l .size) (drop (l .offset + l .size) image)) (take (l .size) (drop (l .offset) image)) in
+    let long : length whole ≡ l .size = half-length image l bit inside in
+    sym (bytes-is (content tree image half) x n (take n (drop x whole)) (length-part whole x n (omega arith))
+    (λ k h. ap (λ (c : Bool). getD image (place l c (x + k)) 0) (ap (select3 tree image half) (one k h) ∙ sym e)
+    ∙ sym (getD-part whole x n k h ∙ half-byte image l bit (x + k) (omega arith))))
+
+-- the two halves as the code cuts them out of the image, and the run as it cuts it out of them
+module _ (image : List ℕ) (l : Level) where
+  unfoldable pub first-half : List ℕ
+  first-half = take (l .offset + l .size - l .offset) (drop (l .offset) image)
+
+  unfoldable pub second-half : List ℕ
+  second-half = take (l .offset + l .size + l .size - (l .offset + l .size)) (drop (l .offset + l .size) image)
+
+pub halves-reach : (image : List ℕ) (l : Level) (to : ℕ) → l .offset + 2 * l .size ≤ length image → to ≤ l .size
+    → (to ≤ length (first-half image l)) × (to ≤ length (second-half image l))
+unfolding first-half second-half
+halves-reach image l to h k =
+    (simp (length-take, length-drop) (omega arith), simp (length-take, length-drop) (omega arith))
+
+pub run-is : (tree : Tree) (image : List ℕ) (half bit : Bool) (x end to : ℕ) → WellPlaced tree (length image) → x < end → end ≤ tree .level3 .size
+    → bit ≡ select3 tree image half (blockOf (tree .level3) x) → to ≡ x + runLength tree x end
+    → take (to - x) (drop x (cond bit (second-half image (tree .level3)) (first-half image (tree .level3)))) ≡ bytes (content tree image half) x (runLength tree x end)
+unfolding first-half second-half
+run-is tree image half bit x end to w some fits e et =
+    let k : to - x ≡ runLength tree x end = omega arith in
+    rw (add-sub-cancel-left (tree .level3 .offset + tree .level3 .size), add-sub-cancel-left (tree .level3 .offset), k)
+    (run-bytes tree image half bit x (runLength tree x end) (w .inside3) (omega (arith, run-ends tree x end some)) e (run-block tree x end some))

@@ -1,0 +1,5 @@
+pub mod Bits
+pub mod Tree
+pub mod Free
+pub mod Staging
+pub mod Rules
