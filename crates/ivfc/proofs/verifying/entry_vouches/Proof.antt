@@ -1,0 +1,15 @@
+-- `entry_vouches` is the comparison of the two slices. Assumes nothing.
+use borrow.Author.Needs.{needs}
+use Rattle.ivfc.specs.Verified.{vouches}
+use Rattle.ivfc.proofs.verifying.entry_vouches.Statement.{statement}
+use Rattle.ivfc.proofs.verifying.entry_vouches.Tie as tie
+
+same-bytes-requires : tie.Need-same-bytes-requires
+same-bytes-requires c κs = search needs
+
+returns : tie.Need-returns
+unfolding vouches
+returns c = c .same-bytes .ensures
+
+pub entry-vouches-spec : {M : Type 1} → statement M
+entry-vouches-spec = tie.close (tie.spec same-bytes-requires returns)

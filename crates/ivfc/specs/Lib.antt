@@ -1,0 +1,4 @@
+pub mod Blocks
+pub mod Verified
+pub mod Views
+pub mod Rules
