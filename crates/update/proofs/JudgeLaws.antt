@@ -1,0 +1,163 @@
+-- The numbers that refusals 10 and 11 of a write carry. Assumes nothing.
+use mathlib.Core.Path.{_≡_, refl, ap, _∙_}
+use mathlib.Core.Bool.{Bool, true, false, cond, _||_}
+use mathlib.Core.List.{List}
+use mathlib.Core.Logic.{_↔_}
+use Prim.Native.Nat.{ℕ, suc, _+_, _-_, _*_, _≤_, _<_, min, max}
+use native.Mathlib.Omega.{arith}
+use native.Mathlib.Decide.{ℕ-discrete}
+use lib.Dec.{leb}
+use borrow.Author.Tests.{le-leb, leb-true}
+use Rattle.number.specs.declared.Level.{Level}
+use Rattle.number.specs.Blocks.{blockSize, blocks, blockOf, blockLength, lastBlock, touches}
+use Rattle.number.proofs.Tests.{and-left, and-right, and-both}
+use Rattle.number.proofs.BlockLaws.{block-below, block-starts, block-ends, block-mono, block-byte, block-length-pos, exists-byte, touches-is}
+use Rattle.ivfc.specs.declared.View.{View}
+use Rattle.ivfc.specs.Blocks.{parent, child}
+use Rattle.ivfc.specs.Verified.{firstNot}
+use Rattle.ivfc.specs.Views.{levelOf, verified}
+use Rattle.ivfc.specs.Rules.{TreeRules}
+use Rattle.ivfc.proofs.EntryLaws.{parent-mono, child-above, child-below}
+use Rattle.ivfc.proofs.LowestLaws.{Lowest, first-lowest, lowest-one, lowest-past, lowest-under}
+use Rattle.update.specs.Covering.{covered}
+
+-- ---- refusal 11: a hash block above a touched block is not verified
+
+-- the level 3 block above block b of level 4 is verified
+abbrev pub aboveVerified : View → List ℕ → (b : ℕ) → Bool
+aboveVerified view image b = verified view image 3 (parent (levelOf view 3) b)
+
+-- the first level 3 block above the blocks first .. last that is not verified, or past the last
+abbrev pub hashBlock : View → List ℕ → (first last : ℕ) → ℕ
+hashBlock view image first last =
+    firstNot (verified view image 3) (parent (levelOf view 3) first) (suc (parent (levelOf view 3) last) - parent (levelOf view 3) first)
+
+-- so the level 3 blocks are searched, and not those below them
+module _ (view : View) (image : List ℕ) (rules : TreeRules (levelOf view)) (first last : ℕ) (ordered : first ≤ last) where
+  abbrev p : ℕ
+  p = hashBlock view image first last
+
+  logs : 5 ≤ levelOf view 3 .log
+  logs = rules .logs 3 (omega arith) .0
+
+  above-lowest : firstNot (aboveVerified view image) first (suc last - first) ≡ min (suc last) (max first (child (levelOf view 3) p))
+  above-lowest =
+      lowest-one (aboveVerified view image) first last _ _ (first-lowest (aboveVerified view image) first last ordered)
+      (lowest-under (levelOf view 3) logs (verified view image 3) first last p ordered
+      (first-lowest (verified view image 3) (parent (levelOf view 3) first) (parent (levelOf view 3) last) (parent-mono (levelOf view 3) first last ordered)))
+
+  -- where one of them is not verified, the number is that of the first block, from `first` on, that has its entry there
+  pub above-some : hashBlock view image first last ≤ parent (levelOf view 3) last
+      → (firstNot (aboveVerified view image) first (suc last - first) ≡ max first (child (levelOf view 3) (hashBlock view image first last)))
+      × (max first (child (levelOf view 3) (hashBlock view image first last)) ≤ last)
+  above-some h =
+      let k : child (levelOf view 3) p ≤ last = child-below (levelOf view 3) logs last p h in
+      (omega (arith, above-lowest), omega arith)
+
+  -- else there is none
+  pub above-none : parent (levelOf view 3) last < hashBlock view image first last
+      → (b : ℕ) → first ≤ b → b ≤ last → aboveVerified view image b ≡ true
+  above-none h =
+      let k : last < child (levelOf view 3) p = child-above (levelOf view 3) logs last p h in
+      lowest-past (aboveVerified view image) first last _ (first-lowest (aboveVerified view image) first last ordered) (omega (arith, above-lowest))
+
+-- then a write may go on: what its laws ask of each touched block
+pub touched-vouched : (view : View) (image : List ℕ) (x n : ℕ)
+    → ((b : ℕ) → blockOf (levelOf view 4) x ≤ b → b ≤ lastBlock (levelOf view 4) x n → aboveVerified view image b ≡ true)
+    → (b : ℕ) → touches (view .level4) x n b ≡ true → verified view image 3 (parent (view .level3) b) ≡ true
+unfolding levelOf
+touched-vouched view image x n h b e =
+    let (some, f, l) = touches-is (view .level4) x n b e in
+    h b f l
+
+-- ---- refusal 10: only the first and the last touched block can be covered in part
+
+pub covered-between : (l : Level) (x n b : ℕ) → blockOf l x < b → b < lastBlock l x n → covered l x n b ≡ true
+unfolding covered lastBlock blockLength
+covered-between l x n b f k =
+    let p : x ≤ b * blockSize l = omega (arith, block-ends l x, block-below (blockSize l) (blockOf l x) b f) in
+    let q : b * blockSize l + blockLength l b ≤ x + n =
+    omega (arith, block-below (blockSize l) b (blockOf l (x + n - 1)) k, block-starts l (x + n - 1)) in
+    and-both _ _ (le-leb x (b * blockSize l) p) (le-leb (b * blockSize l + blockLength l b) (x + n) q)
+
+-- a block is covered in full exactly if each of its bytes is written
+pub covered-byte : (l : Level) (x n b : ℕ) → b < blocks l
+    → (covered l x n b ≡ true) ↔ ((y : ℕ) → y < l .size → blockOf l y ≡ b → (x ≤ y) × (y < x + n))
+unfolding covered blockLength
+covered-byte l x n b h = (to, from)
+  where
+    to : covered l x n b ≡ true → (y : ℕ) → y < l .size → blockOf l y ≡ b → (x ≤ y) × (y < x + n)
+    to e y k q =
+        let p : x ≤ b * blockSize l = leb-true _ _ (and-left _ _ e) in
+        let r : b * blockSize l + blockLength l b ≤ x + n = leb-true _ _ (and-right (leb x (b * blockSize l)) _ e) in
+        let s : b * blockSize l ≤ y = rw q at (block-starts l y) in
+        let t : y < b * blockSize l + blockSize l = rw q at (block-ends l y) in
+        (omega arith, omega arith)
+
+    from : ((y : ℕ) → y < l .size → blockOf l y ≡ b → (x ≤ y) × (y < x + n)) → covered l x n b ≡ true
+    from f =
+        let s : b * blockSize l < l .size = exists-byte l b h in
+        let z : 0 < blockLength l b = block-length-pos l b h in
+        let u : b * blockSize l + 0 ≡ b * blockSize l = omega arith in
+        let p : x ≤ b * blockSize l = f (b * blockSize l) s (rw u at (block-byte l b 0 z)) .0 in
+        let v : b * blockSize l + (blockLength l b - 1) < x + n =
+        f (b * blockSize l + (blockLength l b - 1)) (omega arith) (block-byte l b (blockLength l b - 1) (omega arith)) .1 in
+        and-both _ _ (le-leb x (b * blockSize l) p) (le-leb (b * blockSize l + blockLength l b) (x + n) (omega arith))
+
+-- a block is covered in full, or is sound
+abbrev pub coveredOr : Level → (x n : ℕ) → (sound : ℕ → Bool) → (b : ℕ) → Bool
+coveredOr l x n sound b = covered l x n b || sound b
+
+-- so the lowest touched block that is neither is the first or the last
+module _ (l : Level) (x n : ℕ) (some : 0 < n) (sound : ℕ → Bool) where
+  abbrev passes : ℕ → Bool
+  passes = coveredOr l x n sound
+
+  abbrev first : ℕ
+  first = blockOf l x
+
+  abbrev last : ℕ
+  last = lastBlock l x n
+
+  ordered : first ≤ last
+  unfolding lastBlock
+  ordered = block-mono l x (x + n - 1) (omega arith)
+
+  between : (b : ℕ) → first < b → b < last → passes b ≡ true
+  between b f k = rw (covered-between l x n b f k)
+
+  -- those before the last pass if the first does
+  early : passes first ≡ true → (b : ℕ) → first ≤ b → b < last → passes b ≡ true
+  early e b f k = at (ℕ-discrete b first)
+    where
+      at : Dec (b ≡ first) → passes b ≡ true
+      at (yes q) = ap passes q ∙ e
+      at (no q) = between b (omega arith) k
+
+  all : passes first ≡ true → passes last ≡ true → (b : ℕ) → first ≤ b → b ≤ last → passes b ≡ true
+  all e q b f k = at (ℕ-discrete b last)
+    where
+      at : Dec (b ≡ last) → passes b ≡ true
+      at (yes r) = ap passes r ∙ q
+      at (no r) = early e b f (omega arith)
+
+  ends : (p q : Bool) → passes first ≡ p → passes last ≡ q → Lowest passes first last (cond p (cond q (suc last) last) first)
+  ends true true e f = record {
+    from = omega (arith, ordered);
+    to = omega arith;
+    before = λ b h k. all e f b h (omega arith);
+    here = λ h. absurd (omega arith);
+  }
+  ends true false e f = record { from = ordered; to = omega arith; before = λ b h k. early e b h k; here = λ h. f }
+  ends false q e f = record {
+    from = omega arith;
+    to = omega (arith, ordered);
+    before = λ b h k. absurd (omega arith);
+    here = λ h. e;
+  }
+
+  pub partly-lowest : firstNot (coveredOr l x n sound) (blockOf l x) (suc (lastBlock l x n) - blockOf l x)
+      ≡ cond (coveredOr l x n sound (blockOf l x))
+      (cond (coveredOr l x n sound (lastBlock l x n)) (suc (lastBlock l x n)) (lastBlock l x n))
+      (blockOf l x)
+  partly-lowest = lowest-one passes first last _ _ (first-lowest passes first last ordered) (ends (passes first) (passes last) refl refl)

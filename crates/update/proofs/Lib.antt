@@ -1,0 +1,5 @@
+pub mod StoreLaws
+pub mod WriteLaws
+pub mod ImageLaws
+pub mod JudgeLaws
+pub mod CodeLaws

@@ -1,0 +1,4 @@
+pub mod Writing
+pub mod Staged
+pub mod Covering
+pub mod Rules
