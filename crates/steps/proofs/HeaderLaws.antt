@@ -1,0 +1,68 @@
+-- The header that a commit stores, as the code makes it. Assumes nothing.
+use mathlib.Core.Path.{_≡_, refl, sym, ap, _∙_}
+use mathlib.Core.List.{List, [], _++_, append-nil}
+use mathlib.Core.Logic.{_⊎_, inl, inr}
+use Prim.Native.Nat.{ℕ, _+_, _-_, _≤_, _<_}
+use native.Mathlib.Omega.{arith}
+use lib.ListN.{length, set, take, drop, replicate, length-set, length-replicate, drop-of-length-le}
+use lib.Seq.{sets, sets-eq}
+use Rattle.number.specs.declared.Range.{Range}
+use Rattle.number.specs.Ranges.{part}
+use Rattle.number.proofs.ListLaws.{length-part}
+use Rattle.sha256.specs.Sha256.{sha256}
+use Rattle.sha256.proofs.Laws.{length-sha256}
+use Rattle.layout.specs.declared.Kind.{Kind}
+use Rattle.layout.specs.declared.Kind.the-variants.{Disa, Diff}
+use Rattle.layout.specs.declared.Container.{Container}
+use Rattle.layout.specs.Headers.{headerBytes, flagOffset, hashRange}
+use Rattle.layout.specs.Tables.{inactive}
+use Rattle.layout.specs.Guarantees.{Guarantees}
+use Rattle.steps.specs.Sessions.{headerCommitted, committedImage}
+
+-- a run stored over a whole list of its length is the run
+pub sets-whole : (s l : List ℕ) → length s ≡ length l → sets s 0 l ≡ l
+sets-whole s l e =
+    let d : drop (0 + length l) s ≡ [] = drop-of-length-le s {i = 0 + length l} (omega arith) in
+    let q = sets-eq l s 0 (omega arith) in
+    (simp d at q) ∙ append-nil l
+
+pub header-length : (image : List ℕ) → 0x200 ≤ length image → length (headerBytes image) ≡ 256
+unfolding part
+header-length image h = length-part image 0x100 0x100 (omega arith)
+
+pub flag-small : (image : List ℕ) (c : Container) → Guarantees image c → c .header .flag ≤ 1
+flag-small image c g = go (g .header .flag)
+  where
+    go : (c .header .flag ≡ 0) ⊎ (c .header .flag ≡ 1) → c .header .flag ≤ 1
+    go (inl e) = omega arith
+    go (inr e) = omega arith
+
+pub flag-inside : (kind : Kind) → flagOffset kind < 256
+flag-inside Disa = omega arith
+flag-inside Diff = omega arith
+
+pub hash-inside : (kind : Kind) → hashRange kind .offset + 32 ≤ 256
+hash-inside Disa = omega arith
+hash-inside Diff = omega arith
+
+-- ---- as the functions cite them
+
+pub header-copied : (image zeros after : List ℕ) → length zeros ≡ 256 → 0x200 ≤ length image → after ≡ sets zeros 0 (take 0x100 (drop 0x100 image))
+    → after ≡ headerBytes image
+unfolding part
+header-copied image zeros after z h e = e ∙ sets-whole zeros (take 0x100 (drop 0x100 image)) (z ∙ sym (header-length image h))
+
+module _ (image : List ℕ) (c : Container) (g : Guarantees image c) (header : List ℕ) (same : header ≡ headerBytes image) (at off : ℕ)
+    (flag : at ≡ flagOffset (c .header .kind)) (place : off ≡ hashRange (c .header .kind) .offset)
+    (table digest : List ℕ) (range : Range) (r : range ≡ inactive (c .header)) (t : table ≡ part image range) (d : digest ≡ sha256 table) where
+  pub hash-fits : off + length digest ≤ length (set header at (1 - c .header .flag))
+  hash-fits =
+      rw (d, length-sha256 table, length-set, place, same, header-length image (g .shortest)) (hash-inside (c .header .kind))
+
+  pub header-made : (after : List ℕ) → after ≡ sets (set header at (1 - c .header .flag)) off digest → after ≡ headerCommitted c image
+  unfolding headerCommitted
+  header-made after e = rw (← flag, ← place, ← same, ← r, ← t, ← d) e
+
+pub image-made : (image header after : List ℕ) (c : Container) → header ≡ headerCommitted c image → after ≡ sets image 0x100 header → after ≡ committedImage c image
+unfolding committedImage
+image-made image header after c h e = rw (← h) e

@@ -1,0 +1,208 @@
+-- The calls on a session, by the checks that lead to each answer. Assumes nothing.
+use Prim.Native.Nat.{ℕ, _<_}
+use mathlib.Core.Bool.{Bool, true, false, cond, true≢false}
+use mathlib.Core.List.{List}
+use mathlib.Core.Path.{_≡_, refl, sym, ap, _∙_, subst}
+use lib.Dec.{ltb}
+use lib.ListN.{length}
+use borrow.Author.Tests.{ltb-true}
+use Rattle.layout.specs.declared.Container.{Container}
+use Rattle.layout.specs.declared.Opened.{Opened}
+use Rattle.layout.specs.declared.Opened.the-variants as opening
+use Rattle.layout.specs.declared.Refusal.{Refusal}
+use Rattle.layout.specs.declared.Refusal.the-variants.{NoPartition, ExternalLevel, SessionState, Stale}
+use Rattle.layout.specs.Headers.{headerBytes}
+use Rattle.layout.specs.Opening.{opened}
+use Rattle.layout.specs.Guarantees.{Guarantees}
+use Rattle.layout.proofs.GuaranteeLaws.{guarantees}
+use Rattle.dpfs.specs.declared.Space.{Space}
+use Rattle.ivfc.specs.declared.View.{View}
+use Rattle.ivfc.specs.Rules.{ViewRules}
+use Rattle.update.specs.Staged.{writtenTo}
+use Rattle.update.specs.Rules.{WriteRules}
+use Rattle.views.specs.Places.{partitions, stagedView, spaceOf}
+use Rattle.views.proofs.PlaceLaws.{staged-rules}
+use Rattle.steps.specs.declared.Outcome.{Outcome}
+use Rattle.steps.specs.declared.Outcome.the-variants as outcome
+use Rattle.steps.specs.declared.Session.{Session}
+use Rattle.steps.specs.declared.Step.{Step}
+use Rattle.steps.specs.Sessions.{idle, begunImage, current, writeOutcome, committedImage}
+use Rattle.steps.specs.Calls.{refusalOf, After, Stepped, unchanged, done, leaving, begin, writeTo, write, commit, abandon, Abandoned, beginIn, writeIn, commitIn}
+use Rattle.steps.proofs.WriteLaws.{write-rules}
+
+-- which arm of a test is taken
+yes-of : {A : Type 0} (t : Bool) (a b : A) → t ≡ true → cond t a b ≡ a
+yes-of true a b e = refl
+yes-of false a b e = absurd (true≢false (sym e))
+
+no-of : {A : Type 0} (t : Bool) (a b : A) → t ≡ false → cond t a b ≡ b
+no-of true a b e = absurd (true≢false e)
+no-of false a b e = refl
+
+-- a step that refuses
+abbrev pub Refuses : Step → Session → Refusal → Type 0
+Refuses step session r = (step .outcome ≡ outcome.Refused r) × (step .session ≡ session)
+
+stepped-refused : (step : Step) (image : List ℕ) (session : Session) (r : Refusal) (after : After) → after ≡ unchanged image session r
+    → Refuses step session r → Stepped step image after
+stepped-refused step image session r after e (o, s) = record {
+  outcome = o ∙ sym (ap (λ (a : After). a .outcome) e);
+  session = s ∙ sym (ap (λ (a : After). a .session) e);
+  stored = sym (ap (λ (a : After). a .image) e);
+}
+
+stepped-done : (step : Step) (image left : List ℕ) (session : Session) (after : After) → after ≡ done image session → step .outcome ≡ outcome.Accepted → step .session ≡ session
+    → left ≡ image → Stepped step left after
+stepped-done step image left session after e o s l = record {
+  outcome = o ∙ sym (ap (λ (a : After). a .outcome) e);
+  session = s ∙ sym (ap (λ (a : After). a .session) e);
+  stored = l ∙ sym (ap (λ (a : After). a .image) e);
+}
+
+module _ (image : List ℕ) (answer : Opened) (a : answer ≡ opened image) (session : Session) where
+  -- ---- an image that does not open
+
+  module _ (r : Refusal) (e : answer ≡ opening.Refused r) (refusal : Refusal) (h : refusal ≡ refusalOf answer) (step : Step) (s : Refuses step session refusal) where
+    is : opened image ≡ opening.Refused refusal
+    is = sym a ∙ e ∙ ap opening.Refused (sym (h ∙ ap refusalOf e))
+
+    pub begin-unopened : Stepped step image (begin image session)
+    unfolding begin
+    begin-unopened = stepped-refused step image session refusal _ (rw is) s
+
+    pub write-unopened : (q place : ℕ) (bytes : List ℕ) → Stepped step image (write image session q place bytes)
+    unfolding write
+    write-unopened q place bytes = stepped-refused step image session refusal _ (rw is) s
+
+    pub commit-unopened : Stepped step image (commit image session)
+    unfolding commit
+    commit-unopened = stepped-refused step image session refusal _ (rw is) s
+
+  -- ---- one that does
+
+  module _ (c : Container) (e : answer ≡ opening.Valid c) where
+    valid : opened image ≡ opening.Valid c
+    valid = sym a ∙ e
+
+    pub guaranteed : Guarantees image c
+    guaranteed = guarantees image c valid
+
+    begun-is : begin image session
+        ≡ cond (session .begun) (unchanged image session SessionState) (done (begunImage c image) (record { begun = true; header = headerBytes image }))
+    unfolding begin
+    begun-is = ap (beginIn image session) valid
+
+    pub begin-busy : session .begun ≡ true → (step : Step) → Refuses step session SessionState → Stepped step image (begin image session)
+    begin-busy b step s = stepped-refused step image session SessionState _ (begun-is ∙ yes-of (session .begun) _ _ b) s
+
+    pub begin-done : session .begun ≡ false → (header left : List ℕ) → header ≡ headerBytes image → left ≡ begunImage c image
+        → Stepped (record { outcome = outcome.Accepted; session = record { begun = true; header = header } }) left (begin image session)
+    begin-done b header left h l =
+        stepped-done _ (begunImage c image) left (record { begun = true; header = headerBytes image }) _ (begun-is ∙ no-of (session .begun) _ _ b) refl
+        (ap (λ (x : List ℕ). record { begun = true; header = x }) h) l
+
+    committed-is : commit image session
+        ≡ cond (session .begun) (cond (current c image session) (done (committedImage c image) idle) (unchanged image session Stale)) (unchanged image session SessionState)
+    unfolding commit
+    committed-is = ap (commitIn image session) valid
+
+    written-is : (q place : ℕ) (bytes : List ℕ) → write image session q place bytes
+        ≡ cond (session .begun)
+        (cond (current c image session)
+        (cond (ltb q (partitions c)) (writeTo c image session q place bytes) (unchanged image session NoPartition))
+        (unchanged image session Stale))
+        (unchanged image session SessionState)
+    unfolding write
+    written-is q place bytes = ap (writeIn image session q place bytes) valid
+
+    -- 13
+    pub write-idle : session .begun ≡ false → (step : Step) → Refuses step session SessionState → (q place : ℕ) (bytes : List ℕ) → Stepped step image (write image session q place bytes)
+    write-idle b step s q place bytes = stepped-refused step image session SessionState _ (written-is q place bytes ∙ no-of (session .begun) _ _ b) s
+
+    pub commit-idle : session .begun ≡ false → (step : Step) → Refuses step session SessionState → Stepped step image (commit image session)
+    commit-idle b step s = stepped-refused step image session SessionState _ (committed-is ∙ no-of (session .begun) _ _ b) s
+
+    -- 14
+    module _ (b : session .begun ≡ true) where
+      pub write-stale : current c image session ≡ false → (step : Step) → Refuses step session Stale → (q place : ℕ) (bytes : List ℕ) → Stepped step image (write image session q place bytes)
+      write-stale n step s q place bytes =
+          stepped-refused step image session Stale _
+          (written-is q place bytes ∙ yes-of (session .begun) _ _ b ∙ no-of (current c image session) _ _ n) s
+
+      pub commit-stale : current c image session ≡ false → (step : Step) → Refuses step session Stale → Stepped step image (commit image session)
+      commit-stale n step s =
+          stepped-refused step image session Stale _ (committed-is ∙ yes-of (session .begun) _ _ b ∙ no-of (current c image session) _ _ n) s
+
+      module _ (n : current c image session ≡ true) where
+        pub commit-done : (next : Session) (left : List ℕ) → next ≡ idle → left ≡ committedImage c image
+            → Stepped (record { outcome = outcome.Accepted; session = next }) left (commit image session)
+        commit-done next left i l =
+            stepped-done _ (committedImage c image) left idle _ (committed-is ∙ yes-of (session .begun) _ _ b ∙ yes-of (current c image session) _ _ n) refl i l
+
+        -- 8
+        pub write-missing : (q place : ℕ) (bytes : List ℕ) → ltb q (partitions c) ≡ false → (step : Step) → Refuses step session NoPartition
+            → Stepped step image (write image session q place bytes)
+        write-missing q place bytes m step s =
+            stepped-refused step image session NoPartition _
+            (written-is q place bytes ∙ yes-of (session .begun) _ _ b ∙ yes-of (current c image session) _ _ n ∙ no-of (ltb q (partitions c)) _ _ m) s
+
+        pub write-there : (q place : ℕ) (bytes left : List ℕ) → ltb q (partitions c) ≡ true → (step : Step) → Stepped step left (writeTo c image session q place bytes)
+            → Stepped step left (write image session q place bytes)
+        write-there q place bytes left m step s =
+            subst (Stepped step left)
+            (sym (written-is q place bytes ∙ yes-of (session .begun) _ _ b ∙ yes-of (current c image session) _ _ n ∙ yes-of (ltb q (partitions c)) _ _ m)) s
+
+-- ---- a write to a partition that is there
+
+module _ (image : List ℕ) (c : Container) (g : Guarantees image c) (session : Session) (q : ℕ) (k : q < partitions c) (place : ℕ) (bytes : List ℕ)
+    (view : View) (v : view ≡ stagedView c q) where
+  pub write-external : view .external ≡ true → (step : Step) → Refuses step session ExternalLevel → Stepped step image (writeTo c image session q place bytes)
+  write-external e step s = stepped-refused step image session ExternalLevel _ (yes-of (stagedView c q .external) _ _ (ap (λ (x : View). x .external) (sym v) ∙ e)) s
+
+  pub view-keeps : ViewRules view (length image)
+  view-keeps = rw v (staged-rules image c g q k)
+
+  module _ (e : view .external ≡ false) (answer : Outcome) (a : answer ≡ writeOutcome view image place (length bytes)) where
+    internal : stagedView c q .external ≡ false
+    internal = ap (λ (x : View). x .external) (sym v) ∙ e
+
+    outcome-is : answer ≡ writeOutcome (stagedView c q) image place (length bytes)
+    outcome-is = a ∙ ap (λ (x : View). writeOutcome x image place (length bytes)) v
+
+    whole-is : writeTo c image session q place bytes ≡ leaving answer image (writtenTo (stagedView c q) place bytes image) session
+    whole-is =
+        no-of (stagedView c q .external) _ _ internal
+        ∙ ap (λ (o : Outcome). leaving o image (writtenTo (stagedView c q) place bytes image) session) (sym outcome-is)
+
+    pub write-refused : (r : Refusal) → answer ≡ outcome.Refused r → Stepped (record { outcome = answer; session = session }) image (writeTo c image session q place bytes)
+    write-refused r f = stepped-refused _ image session r _ (whole-is ∙ ap (λ (o : Outcome). leaving o image (writtenTo (stagedView c q) place bytes image) session) f) (f, refl)
+
+    module _ (f : answer ≡ outcome.Accepted) where
+      pub write-asks : (space : Space) → space ≡ spaceOf c → WriteRules space view image place bytes
+      write-asks space s = rw (s, v) (write-rules image c g q k internal place bytes (sym outcome-is ∙ f))
+
+      pub write-done : (left : List ℕ) → left ≡ writtenTo view place bytes image
+          → Stepped (record { outcome = outcome.Accepted; session = session }) left (writeTo c image session q place bytes)
+      write-done left l =
+          stepped-done _ (writtenTo (stagedView c q) place bytes image) left session _
+          (whole-is ∙ ap (λ (o : Outcome). leaving o image (writtenTo (stagedView c q) place bytes image) session) f) refl refl
+          (l ∙ ap (λ (x : View). writtenTo x place bytes image) v)
+
+-- ---- abandon
+
+abandoned-is : (session : Session) → abandon session
+    ≡ cond (session .begun) (record { outcome = outcome.Accepted; session = idle }) (record { outcome = outcome.Refused SessionState; session = session })
+unfolding abandon
+abandoned-is session = refl
+
+pub abandon-idle : (session : Session) (step : Step) → session .begun ≡ false → Refuses step session SessionState
+    → (step .outcome ≡ abandon session .outcome) × (step .session ≡ abandon session .session)
+abandon-idle session step b (o, s) =
+    let e = abandoned-is session ∙ no-of (session .begun) _ _ b in
+    (o ∙ sym (ap (λ (x : Abandoned). x .outcome) e), s ∙ sym (ap (λ (x : Abandoned). x .session) e))
+
+pub abandon-done : (session next : Session) → session .begun ≡ true → next ≡ idle
+    → (outcome.Accepted ≡ abandon session .outcome) × (next ≡ abandon session .session)
+abandon-done session next b i =
+    let e = abandoned-is session ∙ yes-of (session .begun) _ _ b in
+    (sym (ap (λ (x : Abandoned). x .outcome) e), i ∙ sym (ap (λ (x : Abandoned). x .session) e))

@@ -1,0 +1,151 @@
+-- The calls: what each answers and leaves, for any image, any session value and any numbers. The first check that fails decides the answer;
+-- a refusal leaves the image, the buffer and the session as they were.
+use Prim.Native.Nat.{ℕ}
+use mathlib.Core.Path.{_≡_}
+use mathlib.Core.Bool.{Bool, true, false, not, cond}
+use mathlib.Core.List.{List}
+use lib.ListN.{length}
+use lib.Dec.{ltb}
+use Rattle.layout.specs.declared.Container.{Container}
+use Rattle.layout.specs.declared.Opened.{Opened}
+use Rattle.layout.specs.declared.Opened.the-variants as opening
+use Rattle.layout.specs.declared.Refusal.{Refusal}
+use Rattle.layout.specs.declared.Refusal.the-variants.{Length, NoPartition, ExternalLevel, SessionState, Stale}
+use Rattle.layout.specs.Headers.{headerBytes}
+use Rattle.layout.specs.Opening.{opened}
+use Rattle.update.specs.Staged.{writtenTo}
+use Rattle.views.specs.Places.{partitions, committedView, stagedView}
+use Rattle.steps.specs.declared.Outcome.{Outcome}
+use Rattle.steps.specs.declared.Outcome.the-variants as outcome
+use Rattle.steps.specs.declared.Verdict.{Verdict}
+use Rattle.steps.specs.declared.Verdict.the-variants as verdict
+use Rattle.steps.specs.declared.Count.{Count}
+use Rattle.steps.specs.declared.Count.the-variants as count
+use Rattle.steps.specs.declared.Session.{Session}
+use Rattle.steps.specs.declared.Step.{Step}
+use Rattle.steps.specs.Reading.{Read, readFrom, verdictOn, countIn}
+use Rattle.steps.specs.Sessions.{idle, begunImage, current, writeOutcome, committedImage}
+
+-- why opening refuses; of an image that opens nobody asks
+abbrev pub refusalOf : Opened → Refusal
+refusalOf (opening.Refused r) = r
+refusalOf (opening.Valid c) = Length
+
+-- ---- calls that read
+
+abbrev pub unread : (buffer : List ℕ) → Refusal → Read
+unread buffer r = record { outcome = outcome.Refused r; buffer = buffer }
+
+-- opening's refusals, 8, then 9 and 10
+abbrev pub readIn : List ℕ → (q place : ℕ) → (buffer : List ℕ) → Opened → Read
+readIn image q place buffer (opening.Refused r) = unread buffer r
+readIn image q place buffer (opening.Valid c) =
+    cond (ltb q (partitions c)) (readFrom (committedView c q) image place buffer) (unread buffer NoPartition)
+
+unfoldable pub readCommitted : List ℕ → (q place : ℕ) → (buffer : List ℕ) → Read
+readCommitted image q place buffer = readIn image q place buffer (opened image)
+
+-- opening's refusals, 13, 14, 8, then 9 and 10
+abbrev pub readStagedIn : List ℕ → Session → (q place : ℕ) → (buffer : List ℕ) → Opened → Read
+readStagedIn image session q place buffer (opening.Refused r) = unread buffer r
+readStagedIn image session q place buffer (opening.Valid c) =
+    cond (session .begun)
+    (cond (current c image session)
+    (cond (ltb q (partitions c)) (readFrom (stagedView c q) image place buffer) (unread buffer NoPartition))
+    (unread buffer Stale))
+    (unread buffer SessionState)
+
+unfoldable pub readStaged : List ℕ → Session → (q place : ℕ) → (buffer : List ℕ) → Read
+readStaged image session q place buffer = readStagedIn image session q place buffer (opened image)
+
+-- opening's refusals, 8, then 9, yes or no; it speaks of the committed view
+abbrev pub verifiedIn : List ℕ → (q b : ℕ) → Opened → Verdict
+verifiedIn image q b (opening.Refused r) = verdict.Refused r
+verifiedIn image q b (opening.Valid c) =
+    cond (ltb q (partitions c)) (verdictOn (committedView c q) image b) (verdict.Refused NoPartition)
+
+unfoldable pub isVerified : List ℕ → (q b : ℕ) → Verdict
+isVerified image q b = verifiedIn image q b (opened image)
+
+abbrev pub countVerifiedIn : List ℕ → (q : ℕ) → Opened → Count
+countVerifiedIn image q (opening.Refused r) = count.Refused r
+countVerifiedIn image q (opening.Valid c) =
+    cond (ltb q (partitions c)) (countIn (committedView c q) image) (count.Refused NoPartition)
+
+unfoldable pub countVerified : List ℕ → (q : ℕ) → Count
+countVerified image q = countVerifiedIn image q (opened image)
+
+-- ---- calls on a session
+
+-- what such a call leaves
+pub record After : Type 0 where
+  pub outcome : Outcome
+  pub image : List ℕ
+  pub session : Session
+
+abbrev pub unchanged : List ℕ → Session → Refusal → After
+unchanged image session r = record { outcome = outcome.Refused r; image = image; session = session }
+
+abbrev pub done : List ℕ → Session → After
+done image session = record { outcome = outcome.Accepted; image = image; session = session }
+
+-- a call's step, and the image that it left, are what the definition says
+pub record Stepped (step : Step) (image : List ℕ) (after : After) : Type 0 where
+  pub outcome : step .outcome ≡ after .outcome
+  pub session : step .session ≡ after .session
+  pub stored : image ≡ after .image
+
+-- begin: 13 if begun; it remembers the header
+abbrev pub beginIn : List ℕ → Session → Opened → After
+beginIn image session (opening.Refused r) = unchanged image session r
+beginIn image session (opening.Valid c) =
+    cond (session .begun) (unchanged image session SessionState)
+    (done (begunImage c image) (record { begun = true; header = headerBytes image }))
+
+unfoldable pub begin : List ℕ → Session → After
+begin image session = beginIn image session (opened image)
+
+-- an outcome that is accepted leaves the image that the call makes
+abbrev pub leaving : Outcome → (image after : List ℕ) → Session → After
+leaving outcome.Accepted image after session = done after session
+leaving (outcome.Refused r) image after session = unchanged image session r
+
+-- a write to a partition that is there: 12, 9, 11, 10
+abbrev pub writeTo : Container → List ℕ → Session → (q place : ℕ) → List ℕ → After
+writeTo c image session q place bytes =
+    cond (stagedView c q .external) (unchanged image session ExternalLevel)
+    (leaving (writeOutcome (stagedView c q) image place (length bytes)) image (writtenTo (stagedView c q) place bytes image) session)
+
+-- write: 13, 14, 8, then these
+abbrev pub writeIn : List ℕ → Session → (q place : ℕ) → List ℕ → Opened → After
+writeIn image session q place bytes (opening.Refused r) = unchanged image session r
+writeIn image session q place bytes (opening.Valid c) =
+    cond (session .begun)
+    (cond (current c image session)
+    (cond (ltb q (partitions c)) (writeTo c image session q place bytes) (unchanged image session NoPartition))
+    (unchanged image session Stale))
+    (unchanged image session SessionState)
+
+unfoldable pub write : List ℕ → Session → (q place : ℕ) → List ℕ → After
+write image session q place bytes = writeIn image session q place bytes (opened image)
+
+-- commit: 13, 14
+abbrev pub commitIn : List ℕ → Session → Opened → After
+commitIn image session (opening.Refused r) = unchanged image session r
+commitIn image session (opening.Valid c) =
+    cond (session .begun)
+    (cond (current c image session) (done (committedImage c image) idle) (unchanged image session Stale))
+    (unchanged image session SessionState)
+
+unfoldable pub commit : List ℕ → Session → After
+commit image session = commitIn image session (opened image)
+
+-- abandon: 13 alone; it does not look at the image
+pub record Abandoned : Type 0 where
+  pub outcome : Outcome
+  pub session : Session
+
+unfoldable pub abandon : Session → Abandoned
+abandon session =
+    cond (session .begun) (record { outcome = outcome.Accepted; session = idle })
+    (record { outcome = outcome.Refused SessionState; session = session })

@@ -1,0 +1,4 @@
+pub mod Reading
+pub mod Sessions
+pub mod Calls
+pub mod Rules

@@ -1,0 +1,113 @@
+-- A session: what begin, write and commit leave, and when its image is the one that it began on.
+use Prim.Native.Nat.{ℕ, zero, suc, _+_, _-_, _*_}
+use mathlib.Core.Bool.{Bool, true, false, not, _&&_, _||_, cond}
+use mathlib.Core.List.{List}
+use lib.ListN.{length, getD, set, replicate}
+use lib.Seq.{sets}
+use lib.Dec.{leb, ltb, eqb}
+use Rattle.number.specs.declared.Range.{Range}
+use Rattle.number.specs.Ranges.{part}
+use Rattle.number.specs.Bytes.{within, sameBytes}
+use Rattle.sha256.specs.Sha256.{sha256}
+use Rattle.layout.specs.declared.Slot.{Slot}
+use Rattle.layout.specs.declared.Partition.{Partition}
+use Rattle.layout.specs.declared.Container.{Container}
+use Rattle.layout.specs.declared.Refusal.the-variants.{Unverified, UnverifiedAbove}
+use Rattle.layout.specs.Headers.{headerRange, headerBytes, flagOffset, hashRange}
+use Rattle.layout.specs.Tables.{active, inactive}
+use Rattle.dpfs.specs.Staging.{begun}
+use Rattle.ivfc.specs.declared.View.{View}
+use Rattle.ivfc.specs.Blocks.{parent}
+use Rattle.ivfc.specs.Views.{levelOf, verified}
+use Rattle.update.specs.Covering.{covered}
+use Rattle.views.specs.Places.{partitions, slotOf, partitionOf, treeOf}
+use Rattle.steps.specs.declared.Outcome.{Outcome}
+use Rattle.steps.specs.declared.Outcome.the-variants as outcome
+use Rattle.steps.specs.declared.Session.{Session}
+use Rattle.steps.specs.Reading.{refuseOutside, refuseLowest}
+
+-- an idle session remembers nothing
+unfoldable pub idle : Session
+idle = record { begun = false; header = replicate 256 0 }
+
+-- ---- begin
+
+-- where a partition's selector stands in a table: byte 0x39 of its descriptor
+abbrev pub selectorPlace : Slot → ℕ
+selectorPlace slot = slot .descriptor .offset + 0x39
+
+-- a table with partition q's selector flipped
+unfoldable pub selectorFlipped : Container → (q : ℕ) → (table : List ℕ) → List ℕ
+selectorFlipped c q table = set table (selectorPlace (slotOf c q)) (1 - partitionOf c q .difi .selector)
+
+-- something done for partition A and then, where there are two, for B
+abbrev pub forEach : Container → (ℕ → List ℕ → List ℕ) → List ℕ → List ℕ
+forEach c f x = cond (eqb (partitions c) 2) (f 1 (f 0 x)) (f 0 x)
+
+-- the active table with each partition's selector flipped
+unfoldable pub stagedTable : Container → List ℕ → List ℕ
+stagedTable c image = forEach c (selectorFlipped c) (part image (active (c .header)))
+
+-- the inactive table becomes the active one with each partition's selector flipped
+unfoldable pub tableBegun : Container → List ℕ → List ℕ
+tableBegun c image = sets image (inactive (c .header) .offset) (stagedTable c image)
+
+-- and each partition's other level 1 half becomes a copy of the live half
+unfoldable pub begunImage : Container → List ℕ → List ℕ
+begunImage c image = forEach c (λ (q : ℕ). begun (treeOf c q)) (tableBegun c image)
+
+-- ---- is the session's image the one that it began on
+
+-- a place of a table lies in the master hash of partition q
+unfoldable pub inMaster : Container → (q i : ℕ) → Bool
+inMaster c q i =
+    within (slotOf c q .descriptor .offset + partitionOf c q .difi .master .offset) (partitionOf c q .difi .master .size) i
+
+-- it lies in some master hash
+abbrev pub inSomeMaster : Container → (i : ℕ) → Bool
+inSomeMaster c i = inMaster c 0 i || (eqb (partitions c) 2 && inMaster c 1 i)
+
+-- P holds at each number below n
+unfoldable pub allBelow : (n : ℕ) → (ℕ → Bool) → Bool
+allBelow zero P = true
+allBelow (suc n) P = allBelow n P && P n
+
+-- the inactive table is the active one with selectors flipped and any master hashes
+unfoldable pub tableStaged : Container → List ℕ → Bool
+tableStaged c image =
+    allBelow (inactive (c .header) .size)
+    (λ (i : ℕ). inSomeMaster c i || eqb (getD image (inactive (c .header) .offset + i) 0) (getD (stagedTable c image) i 0))
+
+-- the header is the remembered one, and the inactive table is staged; else the session is refused with 14
+unfoldable pub current : Container → List ℕ → Session → Bool
+current c image session = sameBytes (headerBytes image) (session .header) && tableStaged c image
+
+-- ---- write
+
+-- the block that holds the entry of block b of level 4 is verified
+unfoldable pub aboveVerified : View → List ℕ → (b : ℕ) → Bool
+aboveVerified view image b = verified view image 3 (parent (levelOf view 3) b)
+
+-- 10: a touched block that the write covers only in part is not verified
+unfoldable pub endsOutcome : View → List ℕ → (place n : ℕ) → Outcome
+endsOutcome view image place n =
+    refuseLowest (λ (b : ℕ). covered (view .level4) place n b || verified view image 4 b) Unverified view place n outcome.Accepted
+
+-- 9, 11, 10: the last two with the lowest block to which they apply
+unfoldable pub writeOutcome : View → List ℕ → (place n : ℕ) → Outcome
+writeOutcome view image place n =
+    refuseOutside view place n
+    (refuseLowest (aboveVerified view image) UnverifiedAbove view place n
+    (endsOutcome view image place n))
+
+-- ---- commit
+
+-- the flag is flipped and the table hash becomes that of the staged table
+unfoldable pub headerCommitted : Container → List ℕ → List ℕ
+headerCommitted c image =
+    sets (set (headerBytes image) (flagOffset (c .header .kind)) (1 - c .header .flag))
+    (hashRange (c .header .kind) .offset) (sha256 (part image (inactive (c .header))))
+
+-- only those header bytes change
+unfoldable pub committedImage : Container → List ℕ → List ℕ
+committedImage c image = sets image (headerRange .offset) (headerCommitted c image)

@@ -1,0 +1,41 @@
+// What the public calls are made of: their answers, a session's value, judging, and the stores of begin, write and commit.
+use layout::Refusal;
+
+pub mod answers;
+pub mod beginning;
+pub mod committing;
+pub mod judging;
+pub mod staleness;
+pub mod viewing;
+pub mod writing;
+
+// What a call that needs nothing but a yes answers.
+pub enum Outcome {
+    Accepted,
+    Refused(Refusal),
+}
+
+// Whether a block is verified.
+pub enum Verdict {
+    Verified,
+    Unproven,
+    Refused(Refusal),
+}
+
+// How many blocks are verified.
+pub enum Count {
+    Blocks(u64),
+    Refused(Refusal),
+}
+
+// A session: idle, or begun with the 256 header bytes that it remembers.
+pub struct Session {
+    pub begun: bool,
+    pub header: [u8; 256],
+}
+
+// What a call on a session answers, and the session after it.
+pub struct Step {
+    pub outcome: Outcome,
+    pub session: Session,
+}
