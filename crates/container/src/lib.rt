@@ -1,0 +1,3 @@
+// The public calls, and nothing else: none of them asks anything of its caller.
+pub mod reading;
+pub mod sessions;

@@ -1,0 +1,92 @@
+// The calls that read. None of them changes the image; a refused read leaves its buffer as it was.
+use layout::Opened;
+use layout::Refusal;
+use steps::Count;
+use steps::Outcome;
+use steps::Session;
+use steps::Verdict;
+use steps::answers::has_partition;
+use steps::answers::refusal_of;
+use steps::staleness::is_current;
+use steps::viewing::judge_block;
+use steps::viewing::read_view;
+use views::places::committed_view;
+use views::places::staged_view;
+ghost use mathlib.Core.Path.{_≡_};
+ghost use Rattle.layout.specs.Opening.{opened};
+ghost use Rattle.steps.specs.Calls.{readCommitted, readStaged, isVerified, countVerified};
+
+// Every field of the image that opening reads, or the first refusal of 1 to 7 that applies.
+pub fn open(image: &[u8]) -> Opened
+    ensures { λ r. ⌜ r ≡ opened (now (image .entry)) ⌝ }
+{
+    layout::opening::open(image)
+}
+
+// Fills the whole buffer with bytes of a partition's level 4 from a place on, as the active table has it.
+pub fn read_committed(image: &[u8], partition: u64, place: u64, buffer: &mut [u8]) -> Outcome
+    ensures { λ r. ⌜ (r ≡ readCommitted (now (image .entry)) partition place (now (buffer .entry)) .outcome) × (now (buffer .exit) ≡ readCommitted (now (image .entry)) partition place (now (buffer .entry)) .buffer) ⌝ }
+{
+    let answer = open(image);
+    let Opened::Valid(c) = answer else {
+        return Outcome::Refused(refusal_of(answer));
+    };
+    if !has_partition(c, partition) {
+        return Outcome::Refused(Refusal::NoPartition);
+    }
+    read_view(committed_view(c, partition), image, place, buffer)
+}
+
+// The same as a begun session has it.
+pub fn read_staged(
+    image: &[u8],
+    session: Session,
+    partition: u64,
+    place: u64,
+    buffer: &mut [u8],
+) -> Outcome
+    ensures { λ r. ⌜ (r ≡ readStaged (now (image .entry)) session partition place (now (buffer .entry)) .outcome) × (now (buffer .exit) ≡ readStaged (now (image .entry)) session partition place (now (buffer .entry)) .buffer) ⌝ }
+{
+    let answer = open(image);
+    let Opened::Valid(c) = answer else {
+        return Outcome::Refused(refusal_of(answer));
+    };
+    if !session.begun {
+        return Outcome::Refused(Refusal::SessionState);
+    }
+    if !is_current(image, c, session) {
+        return Outcome::Refused(Refusal::Stale);
+    }
+    if !has_partition(c, partition) {
+        return Outcome::Refused(Refusal::NoPartition);
+    }
+    read_view(staged_view(c, partition), image, place, buffer)
+}
+
+// Whether a block of a partition's level 4 is verified, as the active table has it.
+pub fn verified(image: &[u8], partition: u64, block: u64) -> Verdict
+    ensures { λ r. ⌜ r ≡ isVerified (now (image .entry)) partition block ⌝ }
+{
+    let answer = open(image);
+    let Opened::Valid(c) = answer else {
+        return Verdict::Refused(refusal_of(answer));
+    };
+    if !has_partition(c, partition) {
+        return Verdict::Refused(Refusal::NoPartition);
+    }
+    judge_block(committed_view(c, partition), image, block)
+}
+
+// How many blocks of a partition's level 4 are verified, as the active table has it.
+pub fn count_verified(image: &[u8], partition: u64) -> Count
+    ensures { λ r. ⌜ r ≡ countVerified (now (image .entry)) partition ⌝ }
+{
+    let answer = open(image);
+    let Opened::Valid(c) = answer else {
+        return Count::Refused(refusal_of(answer));
+    };
+    if !has_partition(c, partition) {
+        return Count::Refused(Refusal::NoPartition);
+    }
+    Count::Blocks(ivfc::verifying::count_verified(committed_view(c, partition), image))
+}

@@ -1,0 +1,106 @@
+// The calls on a session. Whatever session value is handed in, only commit changes a byte that the committed view rests on.
+use layout::Opened;
+use layout::Refusal;
+use layout::opening::open;
+use steps::Outcome;
+use steps::Session;
+use steps::Step;
+use steps::answers::has_partition;
+use steps::answers::refusal_of;
+use steps::beginning::stage_image;
+use steps::committing::header_of;
+use steps::committing::switch_tables;
+use steps::staleness::is_current;
+use steps::writing::refused;
+use steps::writing::write_partition;
+use views::places::space_of;
+ghost use mathlib.Core.Path.{_≡_};
+ghost use Rattle.steps.specs.Sessions.{idle};
+ghost use Rattle.steps.specs.Calls as calls;
+ghost use Rattle.steps.specs.Calls.{Stepped};
+
+// A session that remembers nothing.
+pub fn new() -> Session
+    ensures { λ r. ⌜ r ≡ idle ⌝ }
+{
+    Session {
+        begun: false,
+        header: [0u8; 256],
+    }
+}
+
+// Starts a session: stages the inactive table and the other halves of level 1, and remembers the header.
+pub fn begin(image: &mut [u8], session: Session) -> Step
+    ensures { λ r. ⌜ Stepped r (now (image .exit)) (calls.begin (now (image .entry)) session) ⌝ }
+{
+    let answer = open(image);
+    let Opened::Valid(c) = answer else {
+        return refused(session, refusal_of(answer));
+    };
+    if session.begun {
+        return refused(session, Refusal::SessionState);
+    }
+    let header = header_of(image);
+    stage_image(space_of(c), c, image);
+    Step {
+        outcome: Outcome::Accepted,
+        session: Session {
+            begun: true,
+            header,
+        },
+    }
+}
+
+// Writes bytes to a partition's staged level 4 from a place on.
+pub fn write(image: &mut [u8], session: Session, partition: u64, place: u64, bytes: &[u8]) -> Step
+    ensures { λ r. ⌜ Stepped r (now (image .exit)) (calls.write (now (image .entry)) session partition place (now (bytes .entry))) ⌝ }
+{
+    let answer = open(image);
+    let Opened::Valid(c) = answer else {
+        return refused(session, refusal_of(answer));
+    };
+    if !session.begun {
+        return refused(session, Refusal::SessionState);
+    }
+    if !is_current(image, c, session) {
+        return refused(session, Refusal::Stale);
+    }
+    if !has_partition(c, partition) {
+        return refused(session, Refusal::NoPartition);
+    }
+    write_partition(image, session, c, partition, place, bytes)
+}
+
+// Makes what is staged the committed one, by one store of the header.
+pub fn commit(image: &mut [u8], session: Session) -> Step
+    ensures { λ r. ⌜ Stepped r (now (image .exit)) (calls.commit (now (image .entry)) session) ⌝ }
+{
+    let answer = open(image);
+    let Opened::Valid(c) = answer else {
+        return refused(session, refusal_of(answer));
+    };
+    if !session.begun {
+        return refused(session, Refusal::SessionState);
+    }
+    if !is_current(image, c, session) {
+        return refused(session, Refusal::Stale);
+    }
+    switch_tables(image, c);
+    Step {
+        outcome: Outcome::Accepted,
+        session: new(),
+    }
+}
+
+// Ends a session without a look at the image: what it staged is forgotten.
+pub fn abandon(session: Session) -> Step
+    ensures { λ r. ⌜ (r .outcome ≡ calls.abandon session .outcome) × (r .session ≡ calls.abandon session .session) ⌝ }
+{
+    if !session.begun {
+        return refused(session, Refusal::SessionState);
+    }
+    Step {
+        outcome: Outcome::Accepted,
+        session: new(),
+    }
+}
