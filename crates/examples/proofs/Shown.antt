@@ -1,0 +1,84 @@
+-- The examples hold. Assumes nothing.
+use mathlib.Core.Path.{_≡_, refl, sym, ap, _∙_}
+use mathlib.Core.Bool.{Bool, true, false}
+use mathlib.Core.List.{List, [], _∷_}
+use Prim.Native.Nat.{ℕ, _+_, _-_, _*_, _^_, _<_}
+use native.Mathlib.Omega.{arith}
+use native.Mathlib.Nat.{add-zero}
+use borrow.Author.Tests.{le-ltb}
+use lib.Dec.{leb}
+use lib.ListN.{replicate, getD, take, drop}
+use Rattle.number.specs.Blocks.{blockSize, blocks, blockOf, blockLength, lastBlock}
+use Rattle.number.specs.Bytes.{bytes}
+use Rattle.number.specs.Fields.{le16, le32}
+use Rattle.number.specs.Ranges.{part}
+use Rattle.number.proofs.ListLaws.{getD-part}
+use Rattle.layout.specs.declared.JudgedHeader.the-variants.{BadHeader}
+use Rattle.layout.specs.declared.Refusal.the-variants.{Selection, OutOfRange}
+use Rattle.layout.specs.Magic.{opensWith, disaMagic, diffMagic}
+use Rattle.layout.specs.Headers.{diffHeader, judgedHeader, judgedFields, selectionAllowed}
+use Rattle.layout.specs.Tables.{active}
+use Rattle.layout.specs.Descriptors.{enoughBits}
+use Rattle.dpfs.specs.Bits.{bitByte, bitPlace}
+use Rattle.ivfc.specs.declared.View.{View}
+use Rattle.ivfc.specs.Verified.{firstNot}
+use Rattle.ivfc.specs.Blocks.{block, parent}
+use Rattle.steps.specs.declared.Outcome.the-variants.{Accepted, Refused}
+use Rattle.steps.specs.Reading.{touched, refuseLowest, refuseOutside, readOutcome}
+use Rattle.examples.specs.Table.{Examples, levelOf, flagBytes}
+
+-- byte k of the flag, by the field's bytes
+flag-byte : (header : List ℕ) (l : List ℕ) → flagBytes header ≡ l → (k : ℕ) → k < 4 → getD header (0x30 + k) 0 ≡ getD l k 0
+unfolding part
+flag-byte header l e k h = sym (getD-part header 0x30 4 k h) ∙ ap (λ (s : List ℕ). getD s k 0) e
+
+flag-value : (header : List ℕ) (b₀ b₁ b₂ b₃ : ℕ) → flagBytes header ≡ b₀ ∷ b₁ ∷ b₂ ∷ b₃ ∷ []
+    → le32 header 0x30 ≡ (b₀ + 0x100 * b₁) + 0x10000 * (b₂ + 0x100 * b₃)
+unfolding le32 le16
+flag-value header b₀ b₁ b₂ b₃ e =
+    let l = b₀ ∷ b₁ ∷ b₂ ∷ b₃ ∷ [] in
+    rw (flag-byte header l e 0 (omega arith), flag-byte header l e 1 (omega arith), flag-byte header l e 2 (omega arith), flag-byte header l e 3 (omega arith))
+
+secondary : (header : List ℕ) → flagBytes header ≡ 1 ∷ 0 ∷ 0 ∷ 0 ∷ [] → active (diffHeader header) ≡ diffHeader header .secondary
+unfolding active diffHeader
+secondary header e = rw (flag-value header 1 0 0 0 e)
+
+refused : (length : ℕ) (header : List ℕ) → opensWith header disaMagic ≡ false → opensWith header diffMagic ≡ true
+    → flagBytes header ≡ 0 ∷ 1 ∷ 0 ∷ 0 ∷ [] → judgedHeader length header ≡ BadHeader Selection
+unfolding judgedHeader judgedFields selectionAllowed diffHeader
+refused length header p q e = rw (p, q, flag-value header 0 1 0 0 e)
+
+outside : (view : View) (image : List ℕ) (place n : ℕ) → view .level4 .size ≡ 0x1000 → leb (place + n) 0x1000 ≡ false
+    → readOutcome view image place n ≡ Refused OutOfRange
+unfolding readOutcome refuseOutside
+outside view image place n e h = rw (e, h)
+
+accepted : (view : View) (image : List ℕ) → view .level4 .size ≡ 0x1000 → readOutcome view image 0x1000 0 ≡ Accepted
+unfolding readOutcome refuseOutside refuseLowest touched firstNot blockOf blockSize
+accepted view image e = rw (e, add-zero (blockOf (view .level4) 0x1000)) (rw (le-ltb (blockOf (view .level4) 0x1000) (blockOf (view .level4) 0x1000) (omega arith)))
+
+second-block : (f : ℕ → ℕ) → block (levelOf 0x1001 12) f 1 ≡ f 0x1000 ∷ replicate 0xFFF 0
+unfolding block blockSize blockLength bytes
+second-block f = refl
+
+entry-block : (size : ℕ) → parent (levelOf size 12) 130 ≡ 1
+unfolding parent blockOf blockSize
+entry-block size = refl
+
+pub shown : Examples
+unfolding bitByte bitPlace blockOf blockSize blocks enoughBits
+shown = record {
+  p1 = (refl, refl);
+  p2 = (refl, refl);
+  p3 = (refl, refl);
+  p4 = (refl, refl);
+  p5 = (refl, refl);
+  p6 = (refl, refl);
+  p7 = (refl, second-block);
+  p8 = λ view image e. (accepted view image e, outside view image 0x1000 1 e refl);
+  p9 = λ view image e. outside view image 0x1001 0 e refl;
+  p10 = λ view image e. outside view image (2 ^ 64 - 1) 1 e refl;
+  p11 = (refl, entry-block);
+  p12 = λ length header p q. (secondary header, refused length header p q);
+  numbers = (refl, refl);
+}
