@@ -1,0 +1,54 @@
+-- What the theorem needs to know of the calls' definitions, of an image that opens.
+use mathlib.Core.Path.{_≡_}
+use mathlib.Core.Bool.{true, false}
+use mathlib.Core.List.{List}
+use Prim.Native.Nat.{ℕ, _<_}
+use lib.ListN.{length}
+use Rattle.layout.specs.declared.Container.{Container}
+use Rattle.layout.specs.declared.Opened.the-variants as opening
+use Rattle.layout.specs.Headers.{headerBytes}
+use Rattle.layout.specs.Opening.{opened}
+use Rattle.dpfs.specs.Free.{Free}
+use Rattle.update.specs.Staged.{writtenTo}
+use Rattle.views.specs.Places.{partitions, partitionOf, committedView, stagedView, spaceOf}
+use Rattle.steps.specs.declared.Outcome.the-variants as outcome
+use Rattle.steps.specs.Sessions.{begunImage, tableStaged, writeOutcome, committedImage}
+use Rattle.history.specs.Model.{versionOf, laidOver}
+use Rattle.history.specs.Theorem.{Left}
+
+-- an image that differs from another in free bytes only opens alike, has the same header and the same committed views, and no more free bytes
+pub record FrameLaws (c : Container) (image left : List ℕ) : Type 0 where
+  pub opens : opened left ≡ opening.Valid c
+  pub header : headerBytes left ≡ headerBytes image
+  pub free : (i : ℕ) → Free (spaceOf c) left i → Free (spaceOf c) image i
+  pub version : (q : ℕ) → q < partitions c → versionOf (committedView c q) left ≡ versionOf (committedView c q) image
+
+-- begin stores to free bytes, stages the table, and what it stages is what is committed
+pub record BeginLaws (c : Container) (image : List ℕ) : Type 0 where
+  pub stores : Left c image (begunImage c image)
+  pub table : tableStaged c (begunImage c image) ≡ true
+  pub version : (q : ℕ) → q < partitions c → versionOf (stagedView c q) (begunImage c image) ≡ versionOf (committedView c q) image
+
+-- a write to partition q, left as `after`, stores to free bytes, leaves a staged table staged, lays its bytes over q's staged version and
+-- leaves the other partition's alone
+pub record WriteLaws (c : Container) (q place : ℕ) (bytes image after : List ℕ) : Type 0 where
+  pub stores : Left c image after
+  pub table : tableStaged c image ≡ true → tableStaged c after ≡ true
+  pub version : versionOf (stagedView c q) after ≡ laidOver place bytes (versionOf (stagedView c q) image)
+  pub others : (p : ℕ) → p < partitions c → (q ≡ p → ⊥) → versionOf (stagedView c p) after ≡ versionOf (stagedView c p) image
+
+-- the image that a commit leaves opens with the same partitions, and commits what was staged
+pub record CommitLaws (c : Container) (image : List ℕ) : Type 0 where
+  pub container : Container
+  pub opens : opened (committedImage c image) ≡ opening.Valid container
+  pub count : partitions container ≡ partitions c
+  pub internal : (q : ℕ) → q < partitions c → partitionOf container q .difi .external ≡ partitionOf c q .difi .external
+  pub version : (q : ℕ) → q < partitions c → versionOf (committedView container q) (committedImage c image) ≡ versionOf (stagedView c q) image
+
+pub record CallLaws : Type 0 where
+  pub frame : (image left : List ℕ) (c : Container) → opened image ≡ opening.Valid c → Left c image left → FrameLaws c image left
+  pub begin : (image : List ℕ) (c : Container) → opened image ≡ opening.Valid c → BeginLaws c image
+  pub write : (image : List ℕ) (c : Container) → opened image ≡ opening.Valid c → (q place : ℕ) (bytes : List ℕ) → q < partitions c
+      → partitionOf c q .difi .external ≡ false → writeOutcome (stagedView c q) image place (length bytes) ≡ outcome.Accepted
+      → WriteLaws c q place bytes image (writtenTo (stagedView c q) place bytes image)
+  pub commit : (image : List ℕ) (c : Container) → opened image ≡ opening.Valid c → tableStaged c image ≡ true → CommitLaws c image

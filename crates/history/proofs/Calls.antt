@@ -1,0 +1,14 @@
+-- The laws of the calls hold. Assumes nothing.
+use Rattle.history.proofs.CallLaws.{CallLaws}
+use Rattle.history.proofs.Frames.{framed}
+use Rattle.history.proofs.Begins.{begins}
+use Rattle.history.proofs.Writes.{writes}
+use Rattle.history.proofs.Commits.{commits}
+
+pub call-laws : CallLaws
+call-laws = record {
+  frame = framed;
+  begin = begins;
+  write = λ image c o q place bytes there internal ok. writes image c o q place bytes there internal ok;
+  commit = commits;
+}

@@ -1,0 +1,104 @@
+-- Power failure, from the laws of the calls: what an image that is left answers, and which bytes the calls store to. Assumes nothing else.
+use mathlib.Core.Path.{_≡_, refl, sym, ap, _∙_, subst}
+use mathlib.Core.Bool.{Bool, true, false, cond}
+use mathlib.Core.List.{List, [], _∷_}
+use Prim.Native.Nat.{ℕ}
+use native.Mathlib.Omega.{arith}
+use lib.Dec.{ltb}
+use borrow.Author.Tests.{ltb-true}
+use Rattle.number.proofs.FrameLaws.{keeps-refl, keeps-trans}
+use Rattle.layout.specs.declared.Container.{Container}
+use Rattle.layout.specs.declared.Opened.the-variants as opening
+use Rattle.layout.specs.declared.Refusal.the-variants.{NoPartition}
+use Rattle.layout.specs.Opening.{opened}
+use Rattle.views.specs.Places.{partitions, committedView}
+use Rattle.steps.specs.declared.Verdict.the-variants as verdict
+use Rattle.steps.specs.declared.Count.the-variants as count
+use Rattle.steps.specs.Reading.{readFrom, verdictOn, countIn}
+use Rattle.steps.specs.Calls.{After, unread, readIn, readCommitted, verifiedIn, isVerified, countVerifiedIn, countVerified}
+use Rattle.history.specs.Model.{Version, versionOf, readOf, judgedOf, countTrue, Call, Open, ReadCommitted, ReadStaged, IsVerified, CountVerified, Begin, Write, Commit, Abandon, Ruling, Accepted, Refused, Did}
+use Rattle.history.specs.Run.{State, perform, ruled, next, after, events, commits, commitOf}
+use Rattle.history.specs.Theorem.{SameAnswers, Left}
+use Rattle.history.proofs.VersionLaws.{read-version, judged-version, count-version}
+use Rattle.history.proofs.CallCases.{refused, begun-by, written-by}
+use Rattle.history.proofs.CallLaws.{CallLaws}
+
+module _ (W : CallLaws) where
+  -- no call but commit stores to a byte that is not free
+  pub spares : (call : Call) (st : State) (c : Container) → (call ≡ Commit → ⊥) → opened (st .image) ≡ opening.Valid c → Left c (st .image) (next call st .image)
+  unfolding perform
+  spares Open st c h o = keeps-refl _ _
+  spares (ReadCommitted q place buffer) st c h o = keeps-refl _ _
+  spares (ReadStaged q place buffer) st c h o = keeps-refl _ _
+  spares (IsVerified q b) st c h o = keeps-refl _ _
+  spares (CountVerified q) st c h o = keeps-refl _ _
+  spares Begin st c h o = by (ruled Begin st) refl
+    where
+      by : (r : Ruling) → ruled Begin st ≡ r → Left c (st .image) (next Begin st .image)
+      by Accepted e =
+          subst (λ (a : After). Left c (st .image) (a .image)) (sym (begun-by (st .image) (st .session) c o e .after)) (W .begin (st .image) c o .stores)
+      by Refused e = subst (λ (s : State). Left c (st .image) (s .image)) (sym (refused Begin st e)) (keeps-refl _ _)
+  spares (Write q place bytes) st c h o = by (ruled (Write q place bytes) st) refl
+    where
+      by : (r : Ruling) → ruled (Write q place bytes) st ≡ r → Left c (st .image) (next (Write q place bytes) st .image)
+      by Accepted e =
+          let b = written-by (st .image) (st .session) c o q place bytes e in
+          subst (λ (a : After). Left c (st .image) (a .image)) (sym (b .after))
+          (W .write (st .image) c o q place bytes (b .there) (b .internal) (b .allowed) .stores)
+      by Refused e = subst (λ (s : State). Left c (st .image) (s .image)) (sym (refused (Write q place bytes) st e)) (keeps-refl _ _)
+  spares Commit st c h o = absurd (h refl)
+  spares Abandon st c h o = keeps-refl _ _
+
+  -- nor does a call that is no accepted commit
+  spares-event : (call : Call) (r : Ruling) (st : State) (c : Container) → ruled call st ≡ r → commitOf (Did call r) ≡ 0 → opened (st .image) ≡ opening.Valid c
+      → Left c (st .image) (next call st .image)
+  spares-event call Refused st c e z o = subst (λ (s : State). Left c (st .image) (s .image)) (sym (refused call st e)) (keeps-refl _ _)
+  spares-event call Accepted st c e z o = spares call st c (λ q. let y : commitOf (Did Commit Accepted) ≡ 0 = subst (λ (x : Call). commitOf (Did x Accepted) ≡ 0) q z in omega arith) o
+
+  -- so no list does before an accepted commit, from whatever session
+  pub stores : (st : State) (calls : List Call) (c : Container) → opened (st .image) ≡ opening.Valid c → commits (events calls st) ≡ 0
+      → Left c (st .image) (after calls st .image)
+  unfolding after events commits
+  stores st [] c o z = keeps-refl _ _
+  stores st (call ∷ calls) c o z =
+      let k : Left c (st .image) (next call st .image) = spares-event call (ruled call st) st c refl (omega arith) o in
+      let f = W .frame (st .image) (next call st .image) c o k in
+      keeps-trans (f .free) k (stores (next call st) calls c (f .opens) (omega arith))
+
+  -- whatever is left of an image, if it has its bytes where they are not free, answers as it did
+  pub crash : (image left : List ℕ) (c : Container) → opened image ≡ opening.Valid c → Left c image left → SameAnswers image left
+  unfolding readCommitted isVerified countVerified
+  crash image left c o k = record {
+    opening = o' ∙ sym o;
+    reads = λ q place buffer. ap (readIn left q place buffer) o' ∙ reads q place buffer (ltb q (partitions c)) refl ∙ sym (ap (readIn image q place buffer) o);
+    questions = λ q b. ap (verifiedIn left q b) o' ∙ questions q b (ltb q (partitions c)) refl ∙ sym (ap (verifiedIn image q b) o);
+    counts = λ q. ap (countVerifiedIn left q) o' ∙ counts q (ltb q (partitions c)) refl ∙ sym (ap (countVerifiedIn image q) o);
+  }
+    where
+      o' : opened left ≡ opening.Valid c
+      o' = W .frame image left c o k .opens
+
+      same : (q : ℕ) → ltb q (partitions c) ≡ true → versionOf (committedView c q) left ≡ versionOf (committedView c q) image
+      same q e = W .frame image left c o k .version q (ltb-true q (partitions c) e)
+
+      reads : (q place : ℕ) (buffer : List ℕ) (t : Bool) → ltb q (partitions c) ≡ t
+          → cond t (readFrom (committedView c q) left place buffer) (unread buffer NoPartition)
+          ≡ cond t (readFrom (committedView c q) image place buffer) (unread buffer NoPartition)
+      reads q place buffer true e =
+          read-version (committedView c q) left place buffer ∙ ap (λ (v : Version). readOf v place buffer) (same q e)
+          ∙ sym (read-version (committedView c q) image place buffer)
+      reads q place buffer false e = refl
+
+      questions : (q b : ℕ) (t : Bool) → ltb q (partitions c) ≡ t
+          → cond t (verdictOn (committedView c q) left b) (verdict.Refused NoPartition)
+          ≡ cond t (verdictOn (committedView c q) image b) (verdict.Refused NoPartition)
+      questions q b true e =
+          judged-version (committedView c q) left b ∙ ap (λ (v : Version). judgedOf v b) (same q e) ∙ sym (judged-version (committedView c q) image b)
+      questions q b false e = refl
+
+      counts : (q : ℕ) (t : Bool) → ltb q (partitions c) ≡ t
+          → cond t (countIn (committedView c q) left) (count.Refused NoPartition) ≡ cond t (countIn (committedView c q) image) (count.Refused NoPartition)
+      counts q true e =
+          count-version (committedView c q) left ∙ ap (λ (v : Version). count.Blocks (countTrue (v .verified))) (same q e)
+          ∙ sym (count-version (committedView c q) image)
+      counts q false e = refl

@@ -1,0 +1,236 @@
+-- Every list of calls follows the model, from the laws of the calls. Assumes nothing else.
+use mathlib.Core.Path.{_≡_, refl, sym, ap, _∙_, subst}
+use mathlib.Core.Bool.{Bool, true, false, cond}
+use mathlib.Core.List.{List, [], _∷_}
+use mathlib.Core.Option.{Option, none, some, Option·map, Option·getD}
+use Prim.Native.Nat.{ℕ}
+use lib.Dec.{eqb}
+use borrow.Author.Tests.{eqb-true, eqb-false}
+use Rattle.number.specs.Bytes.{sameBytes}
+use Rattle.number.proofs.Tests.{and-left, and-right, and-both}
+use Rattle.number.proofs.ListLaws.{same-refl}
+use Rattle.layout.specs.declared.Container.{Container}
+use Rattle.layout.specs.Headers.{headerBytes}
+use Rattle.update.specs.Staged.{writtenTo}
+use Rattle.views.specs.Places.{stagedView}
+use Rattle.steps.specs.declared.Count.the-variants as count
+use Rattle.steps.specs.declared.Session.{Session}
+use Rattle.steps.specs.Sessions.{idle, begunImage, current, tableStaged, committedImage}
+use Rattle.steps.specs.Calls.{After, readCommitted, readStaged, isVerified, countVerified}
+use Rattle.history.specs.Model.{Version, versionOf, laidOver, Call, Open, ReadCommitted, ReadStaged, IsVerified, CountVerified, Begin, Write, Commit, Abandon, Answer, Reading, Judging, Counting, Ruling, Accepted, Refused, Model, advance, followed, readOf, readStagedOf, judgedOf, countTrue, says}
+use Rattle.history.specs.Run.{State, perform, ruled, next, after, events}
+use Rattle.history.specs.Theorem.{Has, Start, committedIn, stagedIn, Follows, History, Left}
+use Rattle.history.proofs.VersionLaws.{never}
+use Rattle.history.proofs.ReadLaws.{read-committed, read-staged, read-idle, judged, counted}
+use Rattle.history.proofs.CallCases.{not-both, refused, idles, begun-by, written-by, committed-by, abandoned-by, idle-rests}
+use Rattle.history.proofs.CallLaws.{FrameLaws, WriteLaws, CommitLaws, CallLaws}
+
+-- what is kept from call to call: also whether the session is begun, and that it may go on
+abbrev pub Tracks : {image : List ℕ} {p : ℕ} → Has image p → Session → Option Version → Type 0
+Tracks has session none = session .begun ≡ false
+Tracks {image} has session (some v) = (session .begun ≡ true) × (current (has .container) image session ≡ true) × (stagedIn has ≡ v)
+
+pub record Agrees (p : ℕ) (st : State) (m : Model) : Type 0 where
+  pub has : Has (st .image) p
+  pub committed : committedIn has ≡ m .committed
+  pub staged : Tracks has (st .session) (m .staged)
+
+-- the model answers for its own partition
+own : {A : Type 0} (q p : ℕ) (x a : A) → cond (eqb q p) (some x) none ≡ some a → (q ≡ p) × (x ≡ a)
+own q p x a e = by (eqb q p) refl e
+  where
+    by : (t : Bool) → eqb q p ≡ t → cond t (some x) none ≡ some a → (q ≡ p) × (x ≡ a)
+    by true u e = (eqb-true q p u, (cc))
+    by false u e = never e
+
+-- the session goes on where the header is the same and the table is staged
+goes-on : (c : Container) (image image' : List ℕ) (session : Session) → headerBytes image' ≡ headerBytes image
+    → (tableStaged c image ≡ true → tableStaged c image' ≡ true) → current c image session ≡ true → current c image' session ≡ true
+unfolding current
+goes-on c image image' session h t k =
+    and-both (sameBytes (headerBytes image') (session .header)) (tableStaged c image')
+    (ap (λ (x : List ℕ). sameBytes x (session .header)) h ∙ and-left (sameBytes (headerBytes image) (session .header)) (tableStaged c image) k)
+    (t (and-right (sameBytes (headerBytes image) (session .header)) (tableStaged c image) k))
+
+staged-table : (c : Container) (image : List ℕ) (session : Session) → current c image session ≡ true → tableStaged c image ≡ true
+unfolding current
+staged-table c image session k = and-right (sameBytes (headerBytes image) (session .header)) (tableStaged c image) k
+
+fresh : (c : Container) (image image' : List ℕ) → headerBytes image' ≡ headerBytes image → tableStaged c image' ≡ true
+    → current c image' (record { begun = true; header = headerBytes image }) ≡ true
+unfolding current
+fresh c image image' h t =
+    and-both (sameBytes (headerBytes image') (headerBytes image)) (tableStaged c image')
+    (ap (λ (x : List ℕ). sameBytes x (headerBytes image)) h ∙ same-refl (headerBytes image)) t
+
+module _ (W : CallLaws) where
+  abbrev pub has-left : {image left : List ℕ} {p : ℕ} (h : Has image p) → Left (h .container) image left → Has left p
+  has-left {image} {left} h k = record {
+    container = h .container;
+    opens = W .frame image left (h .container) (h .opens) k .opens;
+    there = h .there;
+    internal = h .internal;
+  }
+
+  module _ (p : ℕ) (st : State) (m : Model) (g : Agrees p st m) where
+    abbrev c : Container
+    c = g .has .container
+
+    by-begin : ruled Begin st ≡ Accepted → Agrees p (next Begin st) (advance p Begin Accepted m)
+    unfolding perform advance
+    by-begin e =
+        let b = begun-by (st .image) (st .session) c (g .has .opens) e in
+        let s = W .begin (st .image) c (g .has .opens) in
+        let f = W .frame (st .image) (begunImage c (st .image)) c (g .has .opens) (s .stores) in
+        subst (λ (a : After). Agrees p (record { image = a .image; session = a .session }) (record { committed = m .committed; staged = some (m .committed) }))
+        (sym (b .after))
+        (record {
+          has = has-left (g .has) (s .stores);
+          committed = f .version p (g .has .there) ∙ g .committed;
+          staged = (refl, fresh c (st .image) (begunImage c (st .image)) (f .header) (s .table), s .version p (g .has .there) ∙ g .committed);
+        })
+
+    by-write : (q place : ℕ) (bytes : List ℕ) → ruled (Write q place bytes) st ≡ Accepted
+        → Agrees p (next (Write q place bytes) st) (advance p (Write q place bytes) Accepted m)
+    unfolding perform advance
+    by-write q place bytes e =
+        let b = written-by (st .image) (st .session) c (g .has .opens) q place bytes e in
+        let w = W .write (st .image) c (g .has .opens) q place bytes (b .there) (b .internal) (b .allowed) in
+        let f = W .frame (st .image) (writtenTo (stagedView c q) place bytes (st .image)) c (g .has .opens) (w .stores) in
+        subst (λ (a : After). Agrees p (record { image = a .image; session = a .session }) (advance p (Write q place bytes) Accepted m)) (sym (b .after))
+        (by w f (eqb q p) refl)
+      where
+        image' : List ℕ
+        image' = writtenTo (stagedView c q) place bytes (st .image)
+
+        to : (w : WriteLaws c q place bytes (st .image) image') → FrameLaws c (st .image) image' → (f : Version → Version)
+            → versionOf (stagedView c p) image' ≡ f (versionOf (stagedView c p) (st .image)) → (o : Option Version) → Tracks (g .has) (st .session) o
+            → Tracks (has-left (g .has) (w .stores)) (st .session) (Option·map f o)
+        to w f lay k none t = t
+        to w f lay k (some v) t = (t .0, goes-on c (st .image) image' (st .session) (f .header) (w .table) (t .1), k ∙ ap lay (t .2))
+
+        same : (w : WriteLaws c q place bytes (st .image) image') → FrameLaws c (st .image) image'
+            → versionOf (stagedView c p) image' ≡ versionOf (stagedView c p) (st .image) → (o : Option Version) → Tracks (g .has) (st .session) o
+            → Tracks (has-left (g .has) (w .stores)) (st .session) o
+        same w f k none t = t
+        same w f k (some v) t = (t .0, goes-on c (st .image) image' (st .session) (f .header) (w .table) (t .1), k ∙ t .2)
+
+        by : (w : WriteLaws c q place bytes (st .image) image') → FrameLaws c (st .image) image' → (t : Bool) → eqb q p ≡ t
+            → Agrees p (record { image = image'; session = st .session })
+            (cond t (record { committed = m .committed; staged = Option·map (laidOver place bytes) (m .staged) }) m)
+        by w f true u = record {
+          has = has-left (g .has) (w .stores);
+          committed = f .version p (g .has .there) ∙ g .committed;
+          staged = to w f (laidOver place bytes)
+              (subst (λ (z : ℕ). versionOf (stagedView c z) image' ≡ laidOver place bytes (versionOf (stagedView c z) (st .image))) (eqb-true q p u) (w .version))
+              (m .staged) (g .staged);
+        }
+        by w f false u = record {
+          has = has-left (g .has) (w .stores);
+          committed = f .version p (g .has .there) ∙ g .committed;
+          staged = same w f (w .others p (g .has .there) (eqb-false q p u)) (m .staged) (g .staged);
+        }
+
+    by-commit : ruled Commit st ≡ Accepted → Agrees p (next Commit st) (advance p Commit Accepted m)
+    unfolding perform advance
+    by-commit e =
+        let b = committed-by (st .image) (st .session) c (g .has .opens) e in
+        let s = W .commit (st .image) c (g .has .opens) (staged-table c (st .image) (st .session) (b .current)) in
+        subst (λ (a : After). Agrees p (record { image = a .image; session = a .session }) (record { committed = Option·getD (m .staged) (m .committed); staged = none }))
+        (sym (b .after))
+        (by s (m .staged) (g .staged))
+      where
+        by : CommitLaws c (st .image) → (o : Option Version) → Tracks (g .has) (st .session) o
+            → Agrees p (record { image = committedImage c (st .image); session = idle }) (record { committed = Option·getD o (m .committed); staged = none })
+        by s none t = not-both e (idles Commit st refl t)
+        by s (some v) t = record {
+          has = record {
+            container = s .container;
+            opens = s .opens;
+            there = rw (s .count) (g .has .there);
+            internal = s .internal p (g .has .there) ∙ g .has .internal;
+          };
+          committed = s .version p (g .has .there) ∙ t .2;
+          staged = idle-rests;
+        }
+
+    by-abandon : ruled Abandon st ≡ Accepted → Agrees p (next Abandon st) (advance p Abandon Accepted m)
+    unfolding perform advance
+    by-abandon e = record {
+      has = g .has;
+      committed = g .committed;
+      staged = ap (λ (s : Session). s .begun) (abandoned-by (st .session) e .1) ∙ idle-rests;
+    }
+
+    by-accepted : (call : Call) → ruled call st ≡ Accepted → Agrees p (next call st) (advance p call Accepted m)
+    unfolding perform advance
+    by-accepted Open e = g
+    by-accepted (ReadCommitted q place buffer) e = g
+    by-accepted (ReadStaged q place buffer) e = g
+    by-accepted (IsVerified q b) e = g
+    by-accepted (CountVerified q) e = g
+    by-accepted Begin e = by-begin e
+    by-accepted (Write q place bytes) e = by-write q place bytes e
+    by-accepted Commit e = by-commit e
+    by-accepted Abandon e = by-abandon e
+
+    pub step : (call : Call) → Agrees p (next call st) (advance p call (ruled call st) m)
+    unfolding advance
+    step call = by (ruled call st) refl
+      where
+        by : (r : Ruling) → ruled call st ≡ r → Agrees p (next call st) (advance p call r m)
+        by Accepted e = by-accepted call e
+        by Refused e = subst (λ (s : State). Agrees p s m) (sym (refused call st e)) g
+
+    -- what a read or a question answers
+    staged-answer : (place : ℕ) (buffer : List ℕ) (o : Option Version) → Tracks (g .has) (st .session) o
+        → readStaged (st .image) (st .session) p place buffer ≡ readStagedOf o place buffer
+    staged-answer place buffer none t = read-idle (st .image) c (g .has .opens) p (g .has .there) (st .session) t place buffer
+    staged-answer place buffer (some v) t =
+        read-staged (st .image) c (g .has .opens) p (g .has .there) (st .session) (t .0) (t .1) place buffer
+        ∙ ap (λ (x : Version). readOf x place buffer) (t .2)
+
+    pub answers : (call : Call) (a : Answer) → says p m call ≡ some a → perform call st .answer ≡ a
+    unfolding perform says
+    answers Open a e = never e
+    answers (ReadCommitted q place buffer) a e =
+        let o = own q p (Reading (readOf (m .committed) place buffer)) a e in
+        ap Reading (ap (λ (z : ℕ). readCommitted (st .image) z place buffer) (o .0)
+        ∙ read-committed (st .image) c (g .has .opens) p (g .has .there) place buffer ∙ ap (λ (v : Version). readOf v place buffer) (g .committed)) ∙ o .1
+    answers (ReadStaged q place buffer) a e =
+        let o = own q p (Reading (readStagedOf (m .staged) place buffer)) a e in
+        ap Reading (ap (λ (z : ℕ). readStaged (st .image) (st .session) z place buffer) (o .0) ∙ staged-answer place buffer (m .staged) (g .staged)) ∙ o .1
+    answers (IsVerified q b) a e =
+        let o = own q p (Judging (judgedOf (m .committed) b)) a e in
+        ap Judging (ap (λ (z : ℕ). isVerified (st .image) z b) (o .0)
+        ∙ judged (st .image) c (g .has .opens) p (g .has .there) b ∙ ap (λ (v : Version). judgedOf v b) (g .committed)) ∙ o .1
+    answers (CountVerified q) a e =
+        let o = own q p (Counting (count.Blocks (countTrue (m .committed .verified)))) a e in
+        ap Counting (ap (countVerified (st .image)) (o .0)
+        ∙ counted (st .image) c (g .has .opens) p (g .has .there) ∙ ap (λ (v : Version). count.Blocks (countTrue (v .verified))) (g .committed)) ∙ o .1
+    answers Begin a e = never e
+    answers (Write q place bytes) a e = never e
+    answers Commit a e = never e
+    answers Abandon a e = never e
+
+    pub follows-of : Follows p st m
+    follows-of = record {
+      has = g .has;
+      committed = g .committed;
+      staged = λ v e. subst (λ (o : Option Version). Tracks (g .has) (st .session) o) e (g .staged) .2;
+    }
+
+  -- the whole list
+  pub agrees-on : (p : ℕ) (calls : List Call) (st : State) (m : Model) → Agrees p st m → Agrees p (after calls st) (followed p (events calls st) m)
+  unfolding after events followed
+  agrees-on p [] st m g = g
+  agrees-on p (c ∷ calls) st m g = agrees-on p calls (next c st) (advance p c (ruled c st) m) (step p st m g c)
+
+  pub agrees-first : (p : ℕ) (st : State) (start : Start p st) → Agrees p st (record { committed = committedIn (start .has); staged = none })
+  agrees-first p st start = record { has = start .has; committed = refl; staged = start .idle }
+
+  pub history : (p : ℕ) (st : State) (start : Start p st) (calls : List Call) → History p st start calls
+  history p st start calls = record {
+    follows = λ before rest e. follows-of p _ _ (agrees-on p before st _ (agrees-first p st start));
+    answers = λ before rest c a e. answers p _ _ (agrees-on p before st _ (agrees-first p st start)) c a;
+  }

@@ -1,0 +1,200 @@
+-- The theorem's premises can be met: on the small image a session begins, writes the whole of level 4 and commits. Assumes nothing.
+use mathlib.Core.Path.{_≡_, refl, sym, ap, _∙_}
+use mathlib.Core.Bool.{Bool, true, false, _||_, cond, or-true}
+use mathlib.Core.List.{List, [], _∷_}
+use Prim.Native.Nat.{ℕ, _<_}
+use lib.ListN.{length, replicate, getD}
+use lib.Dec.{lit<, leb, ltb}
+use Rattle.number.specs.declared.Level.{Level}
+use Rattle.number.specs.Fields.{le16, le32, le64}
+use Rattle.number.specs.Ranges.{part}
+use Rattle.number.specs.Blocks.{blocks, blockSize, blockOf, lastBlock}
+use Rattle.number.proofs.Tests.{and-right}
+use Rattle.layout.specs.declared.Container.{Container}
+use Rattle.layout.specs.declared.Opened.{Opened}
+use Rattle.layout.specs.declared.Opened.the-variants as opening
+use Rattle.layout.specs.declared.Refusal.{Refusal}
+use Rattle.layout.specs.declared.Refusal.the-variants.{OutOfRange}
+use Rattle.layout.specs.Headers.{headerBytes, diffHeader}
+use Rattle.layout.specs.Descriptors.{difiFields, ivfcFields, partitionFields}
+use Rattle.layout.specs.Opening.{opened}
+use Rattle.layout.proofs.GuaranteeLaws.{guarantees}
+use Rattle.ivfc.specs.declared.View.{View}
+use Rattle.ivfc.specs.Blocks.{parent}
+use Rattle.ivfc.specs.Verified.{firstNot}
+use Rattle.ivfc.specs.Verified as tree
+use Rattle.ivfc.specs.Views.{levelOf, matches, verified}
+use Rattle.update.specs.Covering.{covered}
+use Rattle.views.specs.Places.{partitions, partitionOf, viewIn, committedView, stagedView}
+use Rattle.steps.specs.declared.Outcome.{Outcome}
+use Rattle.steps.specs.declared.Outcome.the-variants as outcome
+use Rattle.steps.specs.declared.Session.{Session}
+use Rattle.steps.specs.Reading.{touched, refuseLowest, refuseOutside}
+use Rattle.steps.specs.Sessions.{idle, begunImage, current, aboveVerified, endsOutcome, writeOutcome}
+use Rattle.steps.specs.Calls.{After, write, writeIn}
+use Rattle.steps.proofs.BeginLaws.{begun-current}
+use Rattle.history.specs.Model.{Version, versionOf, flags, Call, Begin, Write, Commit, Accepted, rulingOf, Did}
+use Rattle.history.specs.Run.{State, perform, ruled, next, after, events, begins, commits}
+use Rattle.history.specs.Theorem.{Start}
+use Rattle.history.proofs.CallCases.{begun-by, written-by}
+use Rattle.history.proofs.Begins as laws
+use Rattle.history.proofs.Demand.{demand3}
+use Rattle.history.proofs.SmallImage.{table, smallImage, smallContainer, small-opens, small-verified}
+
+-- an idle session on it
+abbrev pub smallState : State
+smallState = record { image = smallImage; session = idle }
+
+there : 0 < partitions smallContainer
+unfolding smallContainer diffHeader
+there = lit< tt
+
+pub small-start : Start 0 smallState
+unfolding smallContainer partitionOf partitionFields difiFields table diffHeader idle
+small-start = record {
+  has = record { container = smallContainer; opens = small-opens; there = there; internal = refl };
+  idle = refl;
+}
+
+-- ---- a begin is accepted on it
+
+begin-there : ruled Begin smallState ≡ Accepted
+unfolding after
+begin-there = demand3 .progress .idle 0 smallState small-start [] (small-start .idle)
+
+-- what it leaves
+abbrev begunSmall : List ℕ
+begunSmall = begunImage smallContainer smallImage
+
+abbrev begunSession : Session
+begunSession = record { begun = true; header = headerBytes smallImage }
+
+abbrev begunState : State
+begunState = record { image = begunSmall; session = begunSession }
+
+begun-is : next Begin smallState ≡ begunState
+unfolding perform
+begun-is = ap (λ (a : After). record { image = a .image; session = a .session }) (begun-by smallImage idle smallContainer small-opens begin-there .after)
+
+begun-opens : opened begunSmall ≡ opening.Valid smallContainer
+begun-opens =
+    demand3 .crash .answers smallImage begunSmall smallContainer small-opens (laws.begins smallImage smallContainer small-opens .stores) .opening ∙ small-opens
+
+-- ---- then a write of the whole of level 4
+
+abbrev pub written : Call
+written = Write 0 0 (replicate 32 7)
+
+-- the verified blocks of a level 4 of one block
+one-block : (v : View) (image : List ℕ) → blocks (v .level4) ≡ 1 → versionOf v image .verified ≡ verified v image 4 0 ∷ []
+unfolding versionOf flags
+one-block v image e = ap (flags (verified v image 4) 0) e
+
+-- level 4, in either view
+abbrev dataLevel : Level
+dataLevel = record { offset = 96; size = 32; log = 5 }
+
+committed-level : committedView smallContainer 0 .level4 ≡ dataLevel
+unfolding smallContainer committedView viewIn partitionOf partitionFields difiFields ivfcFields table part le64 le32 le16
+committed-level = refl
+
+staged-level : stagedView smallContainer 0 .level4 ≡ dataLevel
+unfolding smallContainer stagedView viewIn partitionOf partitionFields difiFields ivfcFields table part le64 le32 le16
+staged-level = refl
+
+committed-one : blocks (committedView smallContainer 0 .level4) ≡ 1
+unfolding blocks blockSize
+committed-one = ap blocks committed-level
+
+staged-one : blocks (stagedView smallContainer 0 .level4) ≡ 1
+unfolding blocks blockSize
+staged-one = ap blocks staged-level
+
+-- the block is verified in the staged view after the begin, and so is the one that holds its entry
+staged-verified : verified (stagedView smallContainer 0) begunSmall 4 0 ≡ true
+staged-verified =
+    ap (λ (l : List Bool). getD l 0 false)
+    (sym (one-block (stagedView smallContainer 0) begunSmall staged-one)
+    ∙ ap (λ (v : Version). v .verified) (laws.begins smallImage smallContainer small-opens .version 0 there)
+    ∙ one-block (committedView smallContainer 0) smallImage committed-one)
+    ∙ small-verified
+
+above-verified : aboveVerified (stagedView smallContainer 0) begunSmall 0 ≡ true
+unfolding aboveVerified tree.verified
+above-verified =
+    and-right (matches (stagedView smallContainer 0) begunSmall 4 0)
+    (verified (stagedView smallContainer 0) begunSmall 3 (parent (levelOf (stagedView smallContainer 0) 3) 0)) staged-verified
+
+-- where 32 bytes from 0 on touch block 0 alone, a test that holds there refuses nothing
+passes : (P : ℕ → Bool) (refusal : ℕ → Refusal) (view : View) (rest : Outcome) → blockOf (view .level4) 0 ≡ 0 → touched (view .level4) 0 32 ≡ 1 → P 0 ≡ true
+    → refuseLowest P refusal view 0 32 rest ≡ rest
+unfolding refuseLowest firstNot
+passes P refusal view rest b t p = rw (b, t, p)
+
+first-block : blockOf (stagedView smallContainer 0 .level4) 0 ≡ 0
+unfolding blockOf blockSize
+first-block = ap (λ (l : Level). blockOf l 0) staged-level
+
+touched-one : touched (stagedView smallContainer 0 .level4) 0 32 ≡ 1
+unfolding touched lastBlock blockOf blockSize
+touched-one = ap (λ (l : Level). touched l 0 32) staged-level
+
+inside-there : (rest : Outcome) → refuseOutside (stagedView smallContainer 0) 0 32 rest ≡ rest
+unfolding refuseOutside
+inside-there rest = ap (λ (l : Level). cond (leb 32 (l .size)) rest (outcome.Refused OutOfRange)) staged-level
+
+outcome-there : writeOutcome (stagedView smallContainer 0) begunSmall 0 32 ≡ outcome.Accepted
+unfolding writeOutcome endsOutcome
+outcome-there =
+    inside-there _
+    ∙ passes (aboveVerified (stagedView smallContainer 0) begunSmall) _ (stagedView smallContainer 0) _ first-block touched-one above-verified
+    ∙ passes _ _ (stagedView smallContainer 0) _ first-block touched-one
+    (ap (λ (t : Bool). covered (stagedView smallContainer 0 .level4) 0 32 0 || t) staged-verified
+    ∙ or-true (covered (stagedView smallContainer 0 .level4) 0 32 0))
+
+-- a write that passes each check is accepted
+write-accepted : (st : State) (c : Container) (q place : ℕ) (bytes : List ℕ) → opened (st .image) ≡ opening.Valid c → st .session .begun ≡ true
+    → current c (st .image) (st .session) ≡ true → ltb q (partitions c) ≡ true → stagedView c q .external ≡ false
+    → writeOutcome (stagedView c q) (st .image) place (length bytes) ≡ outcome.Accepted → ruled (Write q place bytes) st ≡ Accepted
+unfolding perform write
+write-accepted st c q place bytes o b k t e w =
+    ap (λ (x : Opened). rulingOf (writeIn (st .image) (st .session) q place bytes x .outcome)) o ∙ rw (w, k, b, t, e)
+
+below : ltb 0 (partitions smallContainer) ≡ true
+unfolding smallContainer diffHeader
+below = refl
+
+internal : stagedView smallContainer 0 .external ≡ false
+unfolding smallContainer stagedView viewIn partitionOf partitionFields difiFields table
+internal = refl
+
+pub write-there : ruled written (next Begin smallState) ≡ Accepted
+write-there =
+    ap (ruled written) begun-is
+    ∙ write-accepted begunState smallContainer 0 0 (replicate 32 7) begun-opens refl
+    (begun-current smallImage smallContainer (guarantees smallImage smallContainer small-opens)) below internal outcome-there
+
+-- ---- and a commit
+
+begun-there : next written (next Begin smallState) .session .begun ≡ true
+unfolding perform
+begun-there =
+    ap (λ (st : State). next written st .session .begun) begun-is
+    ∙ ap (λ (a : After). a .session .begun)
+    (written-by begunSmall begunSession smallContainer begun-opens 0 0 (replicate 32 7) (ap (ruled written) (sym begun-is) ∙ write-there) .after)
+
+commit-there : ruled Commit (next written (next Begin smallState)) ≡ Accepted
+unfolding after
+commit-there = demand3 .progress .begun 0 smallState small-start (Begin ∷ written ∷ []) begun-there .0
+
+-- the list, and what came of it
+abbrev pub smallCalls : List Call
+smallCalls = Begin ∷ written ∷ Commit ∷ []
+
+pub small-events : events smallCalls smallState ≡ Did Begin Accepted ∷ Did written Accepted ∷ Did Commit Accepted ∷ []
+unfolding events
+small-events = rw (begin-there, write-there, commit-there)
+
+pub small-lands : (begins (events smallCalls smallState) ≡ 1) × (ruled written (next Begin smallState) ≡ Accepted) × (commits (events smallCalls smallState) ≡ 1)
+unfolding begins commits
+small-lands = (rw small-events, write-there, rw small-events)

@@ -1,0 +1,177 @@
+-- The model (01: the bench book) of one partition with internal level 4. It is fed each call's name, its arguments without image and
+-- session, and whether it was accepted; it says what the partition's reads and questions answer.
+use Prim.Native.Nat.{ℕ, zero, suc, _+_}
+use mathlib.Core.Bool.{Bool, false, not, _&&_, _||_, cond}
+use mathlib.Core.List.{List, [], _∷_}
+use mathlib.Core.Option.{Option, none, some, Option·map, Option·getD}
+use lib.ListN.{length, getD, take, drop}
+use lib.Seq.{sets}
+use lib.Dec.{leb, ltb, eqb}
+use Rattle.number.specs.declared.Level.{Level}
+use Rattle.number.specs.Blocks.{blocks, touches}
+use Rattle.number.specs.Bytes as number
+use Rattle.layout.specs.declared.Opened.{Opened}
+use Rattle.layout.specs.declared.Opened.the-variants as opening
+use Rattle.layout.specs.declared.Refusal.the-variants.{OutOfRange, Unverified, SessionState}
+use Rattle.ivfc.specs.declared.View.{View}
+use Rattle.ivfc.specs.Views.{contentOf}
+use Rattle.ivfc.specs.Views as ivfc
+use Rattle.steps.specs.declared.Outcome.{Outcome}
+use Rattle.steps.specs.declared.Outcome.the-variants as outcome
+use Rattle.steps.specs.declared.Verdict.{Verdict}
+use Rattle.steps.specs.declared.Verdict.the-variants as verdict
+use Rattle.steps.specs.declared.Count.{Count}
+use Rattle.steps.specs.declared.Count.the-variants as count
+use Rattle.steps.specs.Reading.{Read, said}
+use Rattle.steps.specs.Calls.{unread}
+
+-- ---- a version: level 4's bytes, and which of its blocks are verified
+
+-- `level` is level 4's size and the logarithm of its blocks
+pub record Version : Type 0 where
+  pub level : Level
+  pub bytes : List ℕ
+  pub verified : List Bool
+
+-- whether P holds at each of n numbers from b on
+unfoldable pub flags : (P : ℕ → Bool) → (b n : ℕ) → List Bool
+flags P b zero = []
+flags P b (suc n) = P b ∷ flags P (suc b) n
+
+-- the version that a view of an image shows
+unfoldable pub versionOf : View → List ℕ → Version
+versionOf view image = record {
+  level = view .level4;
+  bytes = number.bytes (contentOf view image 4) 0 (view .level4 .size);
+  verified = flags (ivfc.verified view image 4) 0 (blocks (view .level4));
+}
+
+-- from block b on, the touched ones verified, the others as they were
+unfoldable pub marked : (touched : ℕ → Bool) → (b : ℕ) → List Bool → List Bool
+marked touched b [] = []
+marked touched b (v ∷ rest) = (touched b || v) ∷ marked touched (suc b) rest
+
+-- bytes laid over a version from `place` on; every block that they touch is verified
+unfoldable pub laidOver : (place : ℕ) → List ℕ → Version → Version
+laidOver place bytes v = record {
+  level = v .level;
+  bytes = sets (v .bytes) place bytes;
+  verified = marked (touches (v .level) place (length bytes)) 0 (v .verified);
+}
+
+-- ---- calls
+
+-- a call with its arguments, but no image and no session; a read's length is its buffer's
+pub data Call : Type 0 where
+  Open : Call
+  ReadCommitted ReadStaged : (partition place : ℕ) → (buffer : List ℕ) → Call
+  IsVerified : (partition block : ℕ) → Call
+  CountVerified : (partition : ℕ) → Call
+  Begin : Call
+  Write : (partition place : ℕ) → (bytes : List ℕ) → Call
+  Commit : Call
+  Abandon : Call
+
+-- what a call answers, in the types of crate container
+pub data Answer : Type 0 where
+  Opening : Opened → Answer
+  Reading : Read → Answer
+  Judging : Verdict → Answer
+  Counting : Count → Answer
+  Stepping : Outcome → Answer
+
+-- whether it was accepted
+pub data Ruling : Type 0 where
+  Accepted Refused : Ruling
+
+abbrev pub rulingOf : Outcome → Ruling
+rulingOf outcome.Accepted = Accepted
+rulingOf (outcome.Refused r) = Refused
+
+abbrev pub ruling : Answer → Ruling
+ruling (Opening (opening.Valid c)) = Accepted
+ruling (Opening (opening.Refused r)) = Refused
+ruling (Reading read) = rulingOf (read .outcome)
+ruling (Judging verdict.Verified) = Accepted
+ruling (Judging verdict.Unproven) = Accepted
+ruling (Judging (verdict.Refused r)) = Refused
+ruling (Counting (count.Blocks n)) = Accepted
+ruling (Counting (count.Refused r)) = Refused
+ruling (Stepping outcome) = rulingOf outcome
+
+-- a call of a list, and whether it was accepted
+pub data Event : Type 0 where
+  Did : Call → Ruling → Event
+
+-- ---- the model
+
+-- a committed version and, from an accepted begin on, a staged one
+pub record Model : Type 0 where
+  pub committed : Version
+  pub staged : Option Version
+
+-- An accepted begin copies committed to staged. An accepted write to this partition, p, lays its bytes over staged, and every block it
+-- touches is verified there. An accepted commit makes staged the committed one; it or an accepted abandon ends staged. No other call, and
+-- none refused, changes the model.
+unfoldable pub advance : (p : ℕ) → Call → Ruling → Model → Model
+advance p Begin Accepted m = record { committed = m .committed; staged = some (m .committed) }
+advance p (Write q place bytes) Accepted m =
+    cond (eqb q p) (record { committed = m .committed; staged = Option·map (laidOver place bytes) (m .staged) }) m
+advance p Commit Accepted m = record { committed = Option·getD (m .staged) (m .committed); staged = none }
+advance p Abandon Accepted m = record { committed = m .committed; staged = none }
+advance p Open Accepted m = m
+advance p (ReadCommitted q place buffer) Accepted m = m
+advance p (ReadStaged q place buffer) Accepted m = m
+advance p (IsVerified q b) Accepted m = m
+advance p (CountVerified q) Accepted m = m
+advance p c Refused m = m
+
+-- the model after a list
+unfoldable pub followed : (p : ℕ) → List Event → Model → Model
+followed p [] m = m
+followed p (Did c r ∷ events) m = followed p events (advance p c r m)
+
+-- ---- what it says
+
+-- from block b on, the lowest that is touched and not verified
+unfoldable pub lowest : (touched : ℕ → Bool) → (b : ℕ) → List Bool → Option ℕ
+lowest touched b [] = none
+lowest touched b (v ∷ rest) = cond (touched b && not v) (some b) (lowest touched (suc b) rest)
+
+-- the bytes, or 10 with the lowest touched block that is not verified
+abbrev pub handed : (content buffer : List ℕ) → Option ℕ → Read
+handed content buffer none = record { outcome = outcome.Accepted; buffer = content }
+handed content buffer (some b) = unread buffer (Unverified b)
+
+-- a read from a version: 9, else the bytes or 10
+unfoldable pub readOf : Version → (place : ℕ) → (buffer : List ℕ) → Read
+readOf v place buffer =
+    cond (leb (place + length buffer) (length (v .bytes)))
+    (handed (take (length buffer) (drop place (v .bytes))) buffer (lowest (touches (v .level) place (length buffer)) 0 (v .verified)))
+    (unread buffer OutOfRange)
+
+-- of a staged version while there is one, else 13
+abbrev pub readStagedOf : Option Version → (place : ℕ) → (buffer : List ℕ) → Read
+readStagedOf none place buffer = unread buffer SessionState
+readStagedOf (some v) place buffer = readOf v place buffer
+
+-- is block b verified: 9 for a block number past the last, then yes or no
+unfoldable pub judgedOf : Version → (b : ℕ) → Verdict
+judgedOf v b = cond (ltb b (length (v .verified))) (said (getD (v .verified) b false)) (verdict.Refused OutOfRange)
+
+-- how many blocks are verified
+unfoldable pub countTrue : List Bool → ℕ
+countTrue [] = 0
+countTrue (v ∷ rest) = cond v 1 0 + countTrue rest
+
+-- what the model says that a call answers: a read or a question of its partition; of other calls it says nothing
+unfoldable pub says : (p : ℕ) → Model → Call → Option Answer
+says p m Open = none
+says p m (ReadCommitted q place buffer) = cond (eqb q p) (some (Reading (readOf (m .committed) place buffer))) none
+says p m (ReadStaged q place buffer) = cond (eqb q p) (some (Reading (readStagedOf (m .staged) place buffer))) none
+says p m (IsVerified q b) = cond (eqb q p) (some (Judging (judgedOf (m .committed) b))) none
+says p m (CountVerified q) = cond (eqb q p) (some (Counting (count.Blocks (countTrue (m .committed .verified))))) none
+says p m Begin = none
+says p m (Write q place bytes) = none
+says p m Commit = none
+says p m Abandon = none

@@ -1,0 +1,126 @@
+-- Lists of calls, run by the calls' own definitions. A call that takes the image or the session gets it as the calls before left it.
+use Prim.Native.Nat.{ℕ, _+_, _-_}
+use mathlib.Core.Bool.{cond}
+use mathlib.Core.List.{List, [], _∷_}
+use mathlib.Core.Option.{Option, none, some}
+use lib.ListN.{length, getD}
+use lib.Dec.{eqb}
+use Rattle.number.specs.Bytes.{within}
+use Rattle.layout.specs.Opening.{opened}
+use Rattle.steps.specs.declared.Session.{Session}
+use Rattle.steps.specs.Calls.{After, readCommitted, readStaged, isVerified, countVerified, begin, write, commit, abandon}
+use Rattle.history.specs.Model.{Call, Open, ReadCommitted, ReadStaged, IsVerified, CountVerified, Begin, Write, Commit, Abandon, Answer, Opening, Reading, Judging, Counting, Stepping, Ruling, Accepted, Refused, ruling, Event, Did}
+
+pub record State : Type 0 where
+  pub image : List ℕ
+  pub session : Session
+
+-- what a call answers, and leaves
+pub record Performed : Type 0 where
+  pub answer : Answer
+  pub state : State
+
+-- a call that only reads
+abbrev pub answered : State → Answer → Performed
+answered state answer = record { answer = answer; state = state }
+
+-- a call on a session
+abbrev pub stepped : After → Performed
+stepped after = record { answer = Stepping (after .outcome); state = record { image = after .image; session = after .session } }
+
+unfoldable pub perform : Call → State → Performed
+perform Open st = answered st (Opening (opened (st .image)))
+perform (ReadCommitted q place buffer) st = answered st (Reading (readCommitted (st .image) q place buffer))
+perform (ReadStaged q place buffer) st = answered st (Reading (readStaged (st .image) (st .session) q place buffer))
+perform (IsVerified q b) st = answered st (Judging (isVerified (st .image) q b))
+perform (CountVerified q) st = answered st (Counting (countVerified (st .image) q))
+perform Begin st = stepped (begin (st .image) (st .session))
+perform (Write q place bytes) st = stepped (write (st .image) (st .session) q place bytes)
+perform Commit st = stepped (commit (st .image) (st .session))
+perform Abandon st = record {
+  answer = Stepping (abandon (st .session) .outcome);
+  state = record { image = st .image; session = abandon (st .session) .session };
+}
+
+-- whether a call is accepted, and the state that it leaves
+abbrev pub ruled : Call → State → Ruling
+ruled c st = ruling (perform c st .answer)
+
+abbrev pub next : Call → State → State
+next c st = perform c st .state
+
+-- the state after a list of calls
+unfoldable pub after : List Call → State → State
+after [] st = st
+after (c ∷ calls) st = after calls (next c st)
+
+-- and what the model is fed of it
+unfoldable pub events : List Call → State → List Event
+events [] st = []
+events (c ∷ calls) st = Did c (ruled c st) ∷ events calls (next c st)
+
+-- how many begins, and how many commits, were accepted
+abbrev pub beginOf : Event → ℕ
+beginOf (Did Open Accepted) = 0
+beginOf (Did (ReadCommitted q place buffer) Accepted) = 0
+beginOf (Did (ReadStaged q place buffer) Accepted) = 0
+beginOf (Did (IsVerified q b) Accepted) = 0
+beginOf (Did (CountVerified q) Accepted) = 0
+beginOf (Did Begin Accepted) = 1
+beginOf (Did (Write q place bytes) Accepted) = 0
+beginOf (Did Commit Accepted) = 0
+beginOf (Did Abandon Accepted) = 0
+beginOf (Did c Refused) = 0
+
+abbrev pub commitOf : Event → ℕ
+commitOf (Did Open Accepted) = 0
+commitOf (Did (ReadCommitted q place buffer) Accepted) = 0
+commitOf (Did (ReadStaged q place buffer) Accepted) = 0
+commitOf (Did (IsVerified q b) Accepted) = 0
+commitOf (Did (CountVerified q) Accepted) = 0
+commitOf (Did Begin Accepted) = 0
+commitOf (Did (Write q place bytes) Accepted) = 0
+commitOf (Did Commit Accepted) = 1
+commitOf (Did Abandon Accepted) = 0
+commitOf (Did c Refused) = 0
+
+unfoldable pub begins : List Event → ℕ
+begins [] = 0
+begins (e ∷ rest) = beginOf e + begins rest
+
+unfoldable pub commits : List Event → ℕ
+commits [] = 0
+commits (e ∷ rest) = commitOf e + commits rest
+
+-- bytes put at a place of level 4
+pub record Put : Type 0 where
+  pub place : ℕ
+  pub bytes : List ℕ
+
+-- what an accepted write puts into partition p; no other call, and none refused, puts anything
+abbrev pub putBy : (p : ℕ) → Event → Option Put
+putBy p (Did Open Accepted) = none
+putBy p (Did (ReadCommitted q place buffer) Accepted) = none
+putBy p (Did (ReadStaged q place buffer) Accepted) = none
+putBy p (Did (IsVerified q b) Accepted) = none
+putBy p (Did (CountVerified q) Accepted) = none
+putBy p (Did Begin Accepted) = none
+putBy p (Did (Write q place bytes) Accepted) = cond (eqb q p) (some (record { place = place; bytes = bytes })) none
+putBy p (Did Commit Accepted) = none
+putBy p (Did Abandon Accepted) = none
+putBy p (Did c Refused) = none
+
+-- the value that it gives byte i
+abbrev pub valueAt : (i : ℕ) → Option Put → Option ℕ
+valueAt i none = none
+valueAt i (some put) = cond (within (put .place) (length (put .bytes)) i) (some (getD (put .bytes) (i - put .place) 0)) none
+
+-- the later of two values
+abbrev pub later : Option ℕ → (earlier : Option ℕ) → Option ℕ
+later none earlier = earlier
+later (some value) earlier = some value
+
+-- the last value that the accepted writes of a list give byte i of partition p
+unfoldable pub lastValue : (p i : ℕ) → List Event → Option ℕ
+lastValue p i [] = none
+lastValue p i (e ∷ rest) = later (lastValue p i rest) (valueAt i (putBy p e))

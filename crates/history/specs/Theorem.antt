@@ -1,0 +1,139 @@
+-- Demand 3 of the paper: what every list of calls comes to. The closed statements; proofs/Demand.antt proves them.
+use mathlib.Core.Path.{_≡_}
+use Prim.Native.Nat.{ℕ, _+_, _≤_, _<_}
+use mathlib.Core.Bool.{Bool, true, false}
+use mathlib.Core.List.{List, [], _∷_, _++_}
+use mathlib.Core.Option.{none, some}
+use Rattle.number.specs.declared.Level.{Level}
+use Rattle.number.specs.Blocks.{blocks, blockOf}
+use Rattle.number.specs.Frame.{Keeps}
+use Rattle.layout.specs.declared.Container.{Container}
+use Rattle.layout.specs.declared.Opened.the-variants as opening
+use Rattle.layout.specs.Opening.{opened}
+use Rattle.dpfs.specs.Free.{Free}
+use Rattle.ivfc.specs.Views.{contentOf, verified}
+use Rattle.views.specs.Places.{partitions, partitionOf, committedView, stagedView, spaceOf}
+use Rattle.steps.specs.declared.Outcome.the-variants as outcome
+use Rattle.steps.specs.Calls.{readCommitted, isVerified, countVerified}
+use Rattle.history.specs.Model.{Version, versionOf, Call, Begin, Commit, Abandon, Answer, Accepted, Event, Model, followed, says}
+use Rattle.history.specs.Run.{State, perform, ruled, next, after, events, begins, commits, lastValue}
+
+-- an image that opens, with a partition p whose level 4 is internal
+pub record Has (image : List ℕ) (p : ℕ) : Type 0 where
+  pub container : Container
+  pub opens : opened image ≡ opening.Valid container
+  pub there : p < partitions container
+  pub internal : partitionOf container p .difi .external ≡ false
+
+-- such an image, and an idle session
+pub record Start (p : ℕ) (st : State) : Type 0 where
+  pub has : Has (st .image) p
+  pub idle : st .session .begun ≡ false
+
+-- the version of partition p that an image shows, committed and staged
+abbrev pub committedIn : {image : List ℕ} {p : ℕ} → Has image p → Version
+committedIn {image} {p} has = versionOf (committedView (has .container) p) image
+
+abbrev pub stagedIn : {image : List ℕ} {p : ℕ} → Has image p → Version
+stagedIn {image} {p} has = versionOf (stagedView (has .container) p) image
+
+-- ---- the history
+
+-- the views are the model's versions, in every byte of level 4 and in which blocks of it are verified
+pub record Follows (p : ℕ) (st : State) (m : Model) : Type 0 where
+  pub has : Has (st .image) p
+  pub committed : committedIn has ≡ m .committed
+  pub staged : (v : Version) → m .staged ≡ some v → stagedIn has ≡ v
+
+-- the model starts with the view under the active table
+abbrev pub modelAfter : (p : ℕ) (st : State) → Start p st → List Call → Model
+modelAfter p st start calls = followed p (events calls st) (record { committed = committedIn (start .has); staged = none })
+
+pub record History (p : ℕ) (st : State) (start : Start p st) (calls : List Call) : Type 0 where
+  -- after each call of the list the views are the model's versions
+  pub follows : (before rest : List Call) → calls ≡ before ++ rest → Follows p (after before st) (modelAfter p st start before)
+  -- and each call answers what the model says
+  pub answers : (before rest : List Call) (c : Call) (answer : Answer) → calls ≡ before ++ c ∷ rest
+      → says p (modelAfter p st start before) c ≡ some answer → perform c (after before st) .answer ≡ answer
+
+-- for every list, however many begins it has
+abbrev pub HistoryTheorem : Type 0
+HistoryTheorem = (p : ℕ) (st : State) (start : Start p st) (calls : List Call) → History p st start calls
+
+-- ---- power failure
+
+-- opening, and the committed reads and questions of every partition, answer alike
+pub record SameAnswers (image left : List ℕ) : Type 0 where
+  pub opening : opened left ≡ opened image
+  pub reads : (q place : ℕ) (buffer : List ℕ) → readCommitted left q place buffer ≡ readCommitted image q place buffer
+  pub questions : (q b : ℕ) → isVerified left q b ≡ isVerified image q b
+  pub counts : (q : ℕ) → countVerified left q ≡ countVerified image q
+
+-- an image that has another one's bytes where they are not free
+abbrev pub Left : Container → (image left : List ℕ) → Type 0
+Left c image left = Keeps (Free (spaceOf c) image) image left
+
+pub record CrashTheorem : Type 0 where
+  -- whichever of the stores to free bytes have landed, the image that is left answers as the first did
+  pub answers : (image left : List ℕ) (c : Container) → opened image ≡ opening.Valid c → Left c image left → SameAnswers image left
+  -- and until a commit is accepted, no list stores to any other byte
+  pub stores : (st : State) (calls : List Call) (c : Container) → opened (st .image) ≡ opening.Valid c → commits (events calls st) ≡ 0
+      → Left c (st .image) (after calls st .image)
+
+-- no call but commit stores to a byte that is not free, whatever session value is handed in; none stores to an image that does not open
+pub record SparingTheorem : Type 0 where
+  pub opens : (call : Call) (st : State) (c : Container) → (call ≡ Commit → ⊥) → opened (st .image) ≡ opening.Valid c
+      → Left c (st .image) (next call st .image)
+  pub refused : (call : Call) (st : State) → ((c : Container) → opened (st .image) ≡ opening.Valid c → ⊥) → next call st .image ≡ st .image
+
+-- ---- landing
+
+-- level 4 of the committed view: its level, its bytes, its verified blocks
+abbrev pub levelIn : {image : List ℕ} {p : ℕ} → Has image p → Level
+levelIn {image} {p} has = committedView (has .container) p .level4
+
+abbrev pub byteIn : {image : List ℕ} {p : ℕ} → Has image p → (i : ℕ) → ℕ
+byteIn {image} {p} has = contentOf (committedView (has .container) p) image 4
+
+abbrev pub verifiedIn : {image : List ℕ} {p : ℕ} → Has image p → (b : ℕ) → Bool
+verifiedIn {image} {p} has = verified (committedView (has .container) p) image 4
+
+-- partition p of the image that a commit left, against that of the list's first one
+pub record Landed (p : ℕ) (calls : List Event) (first last : List ℕ) (old : Has first p) : Type 0 where
+  pub new : Has last p
+  pub level : levelIn new ≡ levelIn old
+  -- every byte of an accepted write reads back with its last value, and its block is verified
+  pub inside : (i value : ℕ) → lastValue p i calls ≡ some value → i < levelIn old .size
+  pub written : (i value : ℕ) → lastValue p i calls ≡ some value → byteIn new i ≡ value
+  pub verifies : (i value : ℕ) → lastValue p i calls ≡ some value → verifiedIn new (blockOf (levelIn old) i) ≡ true
+  pub reads : (i value any : ℕ) → lastValue p i calls ≡ some value
+      → readCommitted last p i (any ∷ []) ≡ record { outcome = outcome.Accepted; buffer = value ∷ [] }
+  -- every other byte of level 4 is as before, and every other of its blocks is verified exactly if it was before
+  pub others : (i : ℕ) → i < levelIn old .size → lastValue p i calls ≡ none → byteIn new i ≡ byteIn old i
+  pub otherBlocks : (b : ℕ) → b < blocks (levelIn old) → ((i : ℕ) → blockOf (levelIn old) i ≡ b → lastValue p i calls ≡ none)
+      → verifiedIn new b ≡ verifiedIn old b
+
+pub record LandingTheorem : Type 0 where
+  -- once a commit is accepted, in a list with at most one accepted begin
+  pub landed : (p : ℕ) (st : State) (start : Start p st) (calls : List Call) → begins (events calls st) ≤ 1 → 0 < commits (events calls st)
+      → Landed p (events calls st) (st .image) (after calls st .image) (start .has)
+  -- the state stays as that commit left it
+  pub settled : (st : State) (before rest : List Call) → st .session .begun ≡ false → begins (events (before ++ Commit ∷ rest) st) ≤ 1
+      → ruled Commit (after before st) ≡ Accepted → after (before ++ Commit ∷ rest) st ≡ next Commit (after before st)
+
+-- ---- progress: such lists get on, so that the statements above are not empty
+
+-- after any list, 13 alone stops a begin, a commit and an abandon: 14 never comes up
+pub record ProgressTheorem : Type 0 where
+  pub idle : (p : ℕ) (st : State) → Start p st → (calls : List Call) → after calls st .session .begun ≡ false → ruled Begin (after calls st) ≡ Accepted
+  pub begun : (p : ℕ) (st : State) → Start p st → (calls : List Call) → after calls st .session .begun ≡ true
+      → (ruled Commit (after calls st) ≡ Accepted) × (ruled Abandon (after calls st) ≡ Accepted)
+
+-- ---- demand 3
+
+pub record Demand3 : Type 0 where
+  pub history : HistoryTheorem
+  pub crash : CrashTheorem
+  pub sparing : SparingTheorem
+  pub landing : LandingTheorem
+  pub progress : ProgressTheorem
