@@ -1,0 +1,29 @@
+-- The call's contract, through the answer's number and the session's bytes.
+use borrow.Author.Needs.{needs}
+use Rattle.gateway.proofs.teplovist_abandon.Statement.{statement}
+use Rattle.gateway.proofs.teplovist_abandon.Tie as tie
+
+session-of-requires : tie.Need-session-of-requires
+session-of-requires c κs = search needs
+
+abandon-requires : tie.Need-abandon-requires
+abandon-requires c κs = search needs
+
+session-left-requires : tie.Need-session-left-requires
+session-left-requires c κs = search needs
+
+outcome-answer-requires : tie.Need-outcome-answer-requires
+outcome-answer-requires c κs = search needs
+
+returns : tie.Need-returns
+returns c = (cc, cc)
+
+pub teplovist-abandon-spec : {M : Type 1} → statement M
+teplovist-abandon-spec =
+    tie.close
+    (tie.spec
+    session-of-requires
+    abandon-requires
+    session-left-requires
+    outcome-answer-requires
+    returns)

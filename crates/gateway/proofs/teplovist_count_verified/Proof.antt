@@ -1,0 +1,17 @@
+-- The call's contract, through the answer's number.
+use borrow.Author.Needs.{needs}
+use Rattle.gateway.proofs.teplovist_count_verified.Statement.{statement}
+use Rattle.gateway.proofs.teplovist_count_verified.Tie as tie
+
+count-verified-requires : tie.Need-count-verified-requires
+count-verified-requires c κs = search needs
+
+count-answer-requires : tie.Need-count-answer-requires
+count-answer-requires c κs = search needs
+
+returns : tie.Need-returns
+returns c = cc
+
+pub teplovist-count-verified-spec : {M : Type 1} → statement M
+teplovist-count-verified-spec =
+    tie.close (tie.spec count-verified-requires count-answer-requires returns)

@@ -1,0 +1,16 @@
+-- The call's contract, through the answer's number.
+use borrow.Author.Needs.{needs}
+use Rattle.gateway.proofs.teplovist_verified.Statement.{statement}
+use Rattle.gateway.proofs.teplovist_verified.Tie as tie
+
+verified-requires : tie.Need-verified-requires
+verified-requires c κs = search needs
+
+verdict-answer-requires : tie.Need-verdict-answer-requires
+verdict-answer-requires c κs = search needs
+
+returns : tie.Need-returns
+returns c = cc
+
+pub teplovist-verified-spec : {M : Type 1} → statement M
+teplovist-verified-spec = tie.close (tie.spec verified-requires verdict-answer-requires returns)

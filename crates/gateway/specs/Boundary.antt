@@ -1,0 +1,126 @@
+-- How answers, sessions and descriptions pass the C boundary: as numbers and bytes.
+use Prim.Native.Nat.{ℕ, _+_, _*_, _%_, _^_}
+use mathlib.Core.Path.{_≡_}
+use mathlib.Core.Bool.{Bool, true, false, not, cond}
+use mathlib.Core.List.{List, [], _∷_, _++_}
+use lib.ListN.{getD, take, drop, replicate}
+use lib.Dec.{eqb}
+use Rattle.number.specs.declared.Range.{Range}
+use Rattle.number.specs.declared.Level.{Level}
+use Rattle.layout.specs.declared.Kind.{Kind}
+use Rattle.layout.specs.declared.Kind.the-variants.{Disa, Diff}
+use Rattle.layout.specs.declared.Slot.{Slot}
+use Rattle.layout.specs.declared.Header.{Header}
+use Rattle.layout.specs.declared.Difi.{Difi}
+use Rattle.layout.specs.declared.Ivfc.{Ivfc}
+use Rattle.layout.specs.declared.Dpfs.{Dpfs}
+use Rattle.layout.specs.declared.Partition.{Partition}
+use Rattle.layout.specs.declared.Second.{Second}
+use Rattle.layout.specs.declared.Second.the-variants.{Missing, There}
+use Rattle.layout.specs.declared.Container.{Container}
+use Rattle.layout.specs.declared.Refusal.{Refusal}
+use Rattle.layout.specs.declared.Opened.{Opened}
+use Rattle.layout.specs.declared.Opened.the-variants as opening
+use Rattle.layout.specs.Refusals.{number, carried}
+use Rattle.steps.specs.declared.Outcome.{Outcome}
+use Rattle.steps.specs.declared.Outcome.the-variants as outcome
+use Rattle.steps.specs.declared.Verdict.{Verdict}
+use Rattle.steps.specs.declared.Verdict.the-variants as verdict
+use Rattle.steps.specs.declared.Count.{Count}
+use Rattle.steps.specs.declared.Count.the-variants as count
+use Rattle.steps.specs.declared.Session.{Session}
+use Rattle.steps.specs.Calls.{After}
+
+-- ---- an answer is one number of 64 bits
+
+-- the low 8 bits are the refusal's number, 0 if accepted; the bits above carry the value. A block's number or a count is below 2^26, so the
+-- remainder changes nothing; it makes the rule total
+unfoldable pub packed : (number value : ℕ) → ℕ
+packed number value = number % 2 ^ 8 + 2 ^ 8 * (value % 2 ^ 56)
+
+unfoldable pub refusedAnswer : Refusal → ℕ
+refusedAnswer r = packed (number r) (carried r)
+
+abbrev pub outcomeAnswer : Outcome → ℕ
+outcomeAnswer outcome.Accepted = packed 0 0
+outcomeAnswer (outcome.Refused r) = refusedAnswer r
+
+-- 1 for yes, 0 for no
+abbrev pub verdictAnswer : Verdict → ℕ
+verdictAnswer verdict.Verified = packed 0 1
+verdictAnswer verdict.Unproven = packed 0 0
+verdictAnswer (verdict.Refused r) = refusedAnswer r
+
+abbrev pub countAnswer : Count → ℕ
+countAnswer (count.Blocks n) = packed 0 n
+countAnswer (count.Refused r) = refusedAnswer r
+
+abbrev pub openedAnswer : Opened → ℕ
+openedAnswer (opening.Valid c) = packed 0 0
+openedAnswer (opening.Refused r) = refusedAnswer r
+
+-- ---- a session is 257 bytes: 0 for idle and anything else for begun, then the remembered header
+
+unfoldable pub sessionOf : List ℕ → Session
+sessionOf bytes = record { begun = not (eqb (getD bytes 0 0) 0); header = take 256 (drop 1 bytes) }
+
+unfoldable pub sessionBytes : Session → List ℕ
+sessionBytes session = cond (session .begun) 1 0 ∷ session .header
+
+-- a call that is accepted stores the session after it; one that is refused leaves the bytes alone
+abbrev pub sessionLeft : Outcome → (before : List ℕ) → Session → List ℕ
+sessionLeft outcome.Accepted before session = sessionBytes session
+sessionLeft (outcome.Refused r) before session = before
+
+-- what a call on a session answers, and the image and the session's bytes that it leaves
+pub record Called (answer : ℕ) (image : List ℕ) (before bytes : List ℕ) (after : After) : Type 0 where
+  pub outcome : answer ≡ outcomeAnswer (after .outcome)
+  pub stored : image ≡ after .image
+  pub session : bytes ≡ sessionLeft (after .outcome) before (after .session)
+
+-- ---- a description is 80 numbers
+
+abbrev pub rangeNumbers : Range → List ℕ
+rangeNumbers r = r .offset ∷ r .size ∷ []
+
+abbrev pub levelNumbers : Level → List ℕ
+levelNumbers l = l .offset ∷ l .size ∷ l .log ∷ []
+
+abbrev pub kindNumber : Kind → ℕ
+kindNumber Disa = 0
+kindNumber Diff = 1
+
+-- 8 for the header
+unfoldable pub headerNumbers : Header → List ℕ
+headerNumbers h = kindNumber (h .kind) ∷ h .count ∷ h .flag ∷ rangeNumbers (h .secondary) ++ rangeNumbers (h .primary) ++ 0 ∷ []
+
+-- 13 for where a descriptor and its partition are, and what DIFI says
+unfoldable pub pieceNumbers : Slot → Difi → List ℕ
+pieceNumbers slot difi =
+    rangeNumbers (slot .descriptor) ++ rangeNumbers (slot .partition)
+    ++ rangeNumbers (difi .ivfc) ++ rangeNumbers (difi .dpfs) ++ rangeNumbers (difi .master)
+    ++ cond (difi .external) 1 0 ∷ difi .selector ∷ difi .outside ∷ []
+
+-- 23 for the levels, the last three unused
+unfoldable pub levelsNumbers : Ivfc → Dpfs → List ℕ
+levelsNumbers ivfc dpfs =
+    levelNumbers (ivfc .level1) ++ levelNumbers (ivfc .level2) ++ levelNumbers (ivfc .level3) ++ levelNumbers (ivfc .level4)
+    ++ rangeNumbers (dpfs .level1) ++ levelNumbers (dpfs .level2) ++ levelNumbers (dpfs .level3)
+    ++ replicate 3 0
+
+-- 36 for each partition
+unfoldable pub partitionNumbers : Slot → Partition → List ℕ
+partitionNumbers slot p = pieceNumbers slot (p .difi) ++ levelsNumbers (p .ivfc) (p .dpfs)
+
+-- B's are 0 where there is no B
+abbrev pub secondNumbers : Slot → Second → List ℕ
+secondNumbers slot Missing = replicate 36 0
+secondNumbers slot (There b) = partitionNumbers slot b
+
+unfoldable pub description : Container → List ℕ
+description c = headerNumbers (c .header) ++ partitionNumbers (c .header .a) (c .a) ++ secondNumbers (c .header .b) (c .b)
+
+-- an image that does not open leaves the numbers alone
+abbrev pub descriptionLeft : Opened → (before : List ℕ) → List ℕ
+descriptionLeft (opening.Valid c) before = description c
+descriptionLeft (opening.Refused r) before = before
