@@ -1,0 +1,105 @@
+//! The proved library behind its C boundary, made safe to call: a slice passes as a pointer and a length, a fixed array
+//! as a pointer.
+
+use crate::description::Description;
+use crate::rules::session::SessionBytes;
+use crate::subject::Subject;
+
+extern "C" {
+    fn teplovist_open(image: *const u8, image_len: usize, description: *mut u64) -> u64;
+    fn teplovist_read_committed(
+        image: *const u8,
+        image_len: usize,
+        partition: u64,
+        place: u64,
+        buffer: *mut u8,
+        buffer_len: usize,
+    ) -> u64;
+    fn teplovist_read_staged(
+        image: *const u8,
+        image_len: usize,
+        session: *const u8,
+        partition: u64,
+        place: u64,
+        buffer: *mut u8,
+        buffer_len: usize,
+    ) -> u64;
+    fn teplovist_verified(image: *const u8, image_len: usize, partition: u64, block: u64) -> u64;
+    fn teplovist_count_verified(image: *const u8, image_len: usize, partition: u64) -> u64;
+    fn teplovist_begin(image: *mut u8, image_len: usize, session: *mut u8) -> u64;
+    fn teplovist_write(
+        image: *mut u8,
+        image_len: usize,
+        session: *mut u8,
+        partition: u64,
+        place: u64,
+        data: *const u8,
+        data_len: usize,
+    ) -> u64;
+    fn teplovist_commit(image: *mut u8, image_len: usize, session: *mut u8) -> u64;
+    fn teplovist_abandon(session: *mut u8) -> u64;
+}
+
+/// The proved library. Each call lends it slices and arrays of Rust's own for the call alone, of the lengths that it is
+/// told, so the calls are safe as long as the library keeps to its declarations.
+pub struct Library;
+
+impl Subject for Library {
+    fn open(&self, image: &[u8], description: &mut Description) -> u64 {
+        unsafe { teplovist_open(image.as_ptr(), image.len(), description.as_mut_ptr()) }
+    }
+
+    fn read_committed(&self, image: &[u8], partition: u64, place: u64, buffer: &mut [u8]) -> u64 {
+        unsafe {
+            teplovist_read_committed(image.as_ptr(), image.len(), partition, place, buffer.as_mut_ptr(), buffer.len())
+        }
+    }
+
+    fn read_staged(&self, image: &[u8], session: &SessionBytes, partition: u64, place: u64, buffer: &mut [u8]) -> u64 {
+        unsafe {
+            teplovist_read_staged(
+                image.as_ptr(),
+                image.len(),
+                session.as_ptr(),
+                partition,
+                place,
+                buffer.as_mut_ptr(),
+                buffer.len(),
+            )
+        }
+    }
+
+    fn verified(&self, image: &[u8], partition: u64, block: u64) -> u64 {
+        unsafe { teplovist_verified(image.as_ptr(), image.len(), partition, block) }
+    }
+
+    fn count_verified(&self, image: &[u8], partition: u64) -> u64 {
+        unsafe { teplovist_count_verified(image.as_ptr(), image.len(), partition) }
+    }
+
+    fn begin(&self, image: &mut [u8], session: &mut SessionBytes) -> u64 {
+        unsafe { teplovist_begin(image.as_mut_ptr(), image.len(), session.as_mut_ptr()) }
+    }
+
+    fn write(&self, image: &mut [u8], session: &mut SessionBytes, partition: u64, place: u64, data: &[u8]) -> u64 {
+        unsafe {
+            teplovist_write(
+                image.as_mut_ptr(),
+                image.len(),
+                session.as_mut_ptr(),
+                partition,
+                place,
+                data.as_ptr(),
+                data.len(),
+            )
+        }
+    }
+
+    fn commit(&self, image: &mut [u8], session: &mut SessionBytes) -> u64 {
+        unsafe { teplovist_commit(image.as_mut_ptr(), image.len(), session.as_mut_ptr()) }
+    }
+
+    fn abandon(&self, session: &mut SessionBytes) -> u64 {
+        unsafe { teplovist_abandon(session.as_mut_ptr()) }
+    }
+}

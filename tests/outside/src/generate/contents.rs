@@ -1,0 +1,254 @@
+//! Fills a chosen shape with bytes: noise everywhere, the fields over it, and level 4 with its hashes.
+
+use super::random::Random;
+use super::shape::Wanted;
+use super::Sample;
+use crate::model::Version;
+use crate::rules::descriptor::{
+    Level, DIFI_OPENING, DPFS_LEVELS, DPFS_OPENING, ENTRY, IVFC_LEVELS, IVFC_OPENING, SELECTOR,
+};
+use crate::rules::header::{Kind, DIFF_OPENING, DISA_OPENING, HEADER};
+use crate::rules::opening::{Opened, Partition};
+use crate::rules::sha256::sha256;
+
+pub fn build(random: &mut Random, wanted: &Wanted, opened: Opened, length: usize) -> Sample {
+    let mut image = random.bytes(length);
+    if !wanted.tight {
+        even_out_bits(random, &mut image, &opened);
+    }
+    let mut table = random.bytes(opened.header.primary.size as usize);
+    let mut versions = Vec::new();
+    for partition in &opened.partitions {
+        let (version, master) = fill_partition(random, wanted, &mut image, partition);
+        put_descriptor(random, &mut table, partition, &master);
+        versions.push(version);
+    }
+    let active = opened.header.active_table().offset as usize;
+    image[active..active + table.len()].copy_from_slice(&table);
+    if random.chance(30) {
+        put_staged_table(random, &mut image, &opened, table);
+    }
+    put_header(random, &mut image, &opened);
+    put_table_hash(&mut image, &opened);
+    Sample { image, opened, versions }
+}
+
+pub fn put(bytes: &mut [u8], place: usize, data: &[u8]) {
+    bytes[place..place + data.len()].copy_from_slice(data);
+}
+
+fn put_extent(bytes: &mut [u8], place: usize, offset: u128, size: u128) {
+    put(bytes, place, &(offset as u64).to_le_bytes());
+    put(bytes, place + 8, &(size as u64).to_le_bytes());
+}
+
+fn put_level(bytes: &mut [u8], place: usize, level: Level) {
+    put_extent(bytes, place, level.extent.offset, level.extent.size);
+    put(bytes, place + 16, &level.log.to_le_bytes());
+}
+
+/// Now and then all bits of level 1 and level 2 are equal instead of noise.
+fn even_out_bits(random: &mut Random, image: &mut [u8], opened: &Opened) {
+    for partition in &opened.partitions {
+        for half in [partition.descriptor.level1, partition.descriptor.level2.extent] {
+            if random.chance(20) {
+                let start = (partition.place.area.offset + half.offset) as usize;
+                image[start..start + 2 * half.size as usize].fill(random.pick(&[0, 0xFF]));
+            }
+        }
+    }
+}
+
+/// Writes the fields of a descriptor; padding keeps its noise, and so do fields that are not read.
+fn put_descriptor(random: &mut Random, table: &mut [u8], partition: &Partition, master: &[u8]) {
+    let descriptor = &partition.descriptor;
+    let bytes = &mut table[partition.place.descriptor.offset as usize..];
+    put(bytes, 0, DIFI_OPENING);
+    for (place, piece) in [(0x08, descriptor.ivfc), (0x18, descriptor.dpfs), (0x28, descriptor.master)] {
+        put_extent(bytes, place, piece.offset, piece.size);
+    }
+    bytes[SELECTOR] = descriptor.selector as u8;
+    match descriptor.external {
+        Some(offset) => {
+            bytes[0x38] = random.pick(&[1, 2, 0x80, 0xFF]);
+            put(bytes, 0x3C, &offset.to_le_bytes());
+        }
+        None => bytes[0x38] = 0,
+    }
+
+    let ivfc = &mut bytes[descriptor.ivfc.offset as usize..];
+    put(ivfc, 0, IVFC_OPENING);
+    put(ivfc, 8, &(descriptor.master.size as u64).to_le_bytes());
+    for (place, level) in IVFC_LEVELS.into_iter().zip(descriptor.hash_levels) {
+        put_level(ivfc, place, level);
+    }
+    if descriptor.external.is_some() {
+        let unread = random.bytes(8);
+        put(ivfc, IVFC_LEVELS[3], &unread);
+    }
+
+    let dpfs = &mut bytes[descriptor.dpfs.offset as usize..];
+    put(dpfs, 0, DPFS_OPENING);
+    put_extent(dpfs, DPFS_LEVELS[0], descriptor.level1.offset, descriptor.level1.size);
+    put_level(dpfs, DPFS_LEVELS[1], descriptor.level2);
+    put_level(dpfs, DPFS_LEVELS[2], descriptor.level3);
+    put(bytes, descriptor.master.offset as usize, master);
+}
+
+/// Makes the inactive table one that a session would accept, with any master hashes.
+fn put_staged_table(random: &mut Random, image: &mut [u8], opened: &Opened, mut table: Vec<u8>) {
+    for partition in &opened.partitions {
+        let start = partition.place.descriptor.offset as usize;
+        table[start + SELECTOR] ^= 1;
+        if random.chance(50) {
+            let hash = random.bytes(partition.descriptor.master.size as usize);
+            put(&mut table, start + partition.descriptor.master.offset as usize, &hash);
+        }
+    }
+    put(image, opened.header.inactive_table().offset as usize, &table);
+}
+
+fn put_header(random: &mut Random, image: &mut [u8], opened: &Opened) {
+    let header = &opened.header;
+    let bytes = &mut image[HEADER..];
+    let table_size = header.primary.size as u64;
+    let a = header.partitions[0];
+    match header.kind {
+        Kind::Disa => {
+            put(bytes, 0, DISA_OPENING);
+            put(bytes, 0x08, &(header.partitions.len() as u32).to_le_bytes());
+            put_extent(bytes, 0x10, header.secondary.offset, header.primary.offset);
+            put(bytes, 0x20, &table_size.to_le_bytes());
+            put_extent(bytes, 0x28, a.descriptor.offset, a.descriptor.size);
+            put_extent(bytes, 0x48, a.area.offset, a.area.size);
+            if let Some(b) = header.partitions.get(1) {
+                put_extent(bytes, 0x38, b.descriptor.offset, b.descriptor.size);
+                put_extent(bytes, 0x58, b.area.offset, b.area.size);
+            } else if random.chance(50) {
+                // The document says that B's fields are zero then; nothing reads them.
+                bytes[0x38..0x48].fill(0);
+                bytes[0x58..0x68].fill(0);
+            }
+            bytes[0x68] = header.flag as u8;
+        }
+        Kind::Diff => {
+            put(bytes, 0, DIFF_OPENING);
+            put_extent(bytes, 0x08, header.secondary.offset, header.primary.offset);
+            put(bytes, 0x18, &table_size.to_le_bytes());
+            put_extent(bytes, 0x20, a.area.offset, a.area.size);
+            put(bytes, 0x30, &(header.flag as u32).to_le_bytes());
+        }
+    }
+}
+
+/// Brings the header's hash of the active table up to date.
+pub fn put_table_hash(image: &mut [u8], opened: &Opened) {
+    let digest = sha256(opened.header.active_table().of(image));
+    put(image, HEADER + opened.header.kind.hash_place(), &digest);
+}
+
+/// Fills a partition's level 4 and hash levels and lays them into the live copies. Answers what is readable, and the
+/// master hash.
+fn fill_partition(random: &mut Random, wanted: &Wanted, image: &mut [u8], partition: &Partition) -> (Version, Vec<u8>) {
+    let descriptor = &partition.descriptor;
+    let [_, _, _, data_level] = descriptor.hash_levels;
+    let mut data = random.bytes(data_level.extent.size as usize);
+    if random.chance(15) {
+        data.fill(0);
+    }
+    let faults = if wanted.all_verified { [0; 4] } else { choose_faults(random) };
+
+    // From level 4 upwards: the bytes of each level and, for each of its blocks, whether its entry matches.
+    let mut levels = vec![data.clone()];
+    let mut matches = Vec::new();
+    for level in (1..=4).rev() {
+        let bytes = levels.last().expect("level 4 is there");
+        let (entries, good) = hash_blocks(random, bytes, descriptor.hash_level(level).log, faults[level - 1]);
+        matches.push(good);
+        let size = if level == 1 { descriptor.master.size } else { descriptor.hash_level(level - 1).extent.size };
+        let mut above = random.bytes(size as usize);
+        put(&mut above, 0, &entries);
+        levels.push(above);
+    }
+    let master = levels.pop().expect("the master hash is there");
+
+    // From level 1 downwards: a block is verified if its entry matches and the block with the entry is verified.
+    let mut verified = matches.pop().expect("level 1 has blocks");
+    for level in 2..=4 {
+        let good = matches.pop().expect("each level has blocks");
+        let entries_per_block = (1usize << descriptor.hash_level(level - 1).log) / ENTRY as usize;
+        verified = good.iter().enumerate().map(|(block, good)| *good && verified[block / entries_per_block]).collect();
+    }
+
+    let mut level3 = random.bytes(descriptor.level3.extent.size as usize);
+    let area = partition.place.area.offset as usize;
+    for (index, bytes) in levels.iter().enumerate() {
+        let level = 4 - index;
+        match descriptor.external {
+            Some(offset) if level == 4 => put(image, area + offset as usize, bytes),
+            _ => put(&mut level3, descriptor.hash_level(level).extent.offset as usize, bytes),
+        }
+    }
+    scatter(image, partition, &level3);
+    (Version { bytes: data, verified }, master)
+}
+
+/// In how many of a hundred cases a block of level 1 to 4 gets an entry that does not match.
+fn choose_faults(random: &mut Random) -> [u64; 4] {
+    match random.below(10) {
+        0..=3 => [0, 0, 0, 0],
+        4..=6 => [0, 0, 0, 30],
+        7 => [0, 0, 30, 30],
+        8 => [0, 30, 0, 30],
+        _ => [10, 10, 10, 50],
+    }
+}
+
+/// An entry for each block of a level, some of them wrong, and which ones match.
+fn hash_blocks(random: &mut Random, bytes: &[u8], log: u64, faults: u64) -> (Vec<u8>, Vec<bool>) {
+    let mut entries = Vec::new();
+    let mut good = Vec::new();
+    for block in bytes.chunks(1 << log) {
+        let mut padded = block.to_vec();
+        padded.resize(1 << log, 0);
+        let digest = sha256(&padded);
+        let entry = if random.chance(faults) { wrong_entry(random, block, digest) } else { digest };
+        entries.extend_from_slice(&entry);
+        good.push(entry == digest);
+    }
+    (entries, good)
+}
+
+/// Noise, the right hash with one bit changed, or the hash of the block without the zeros behind it.
+fn wrong_entry(random: &mut Random, block: &[u8], digest: [u8; 32]) -> [u8; 32] {
+    match random.below(3) {
+        0 => random.bytes(32).try_into().expect("32 bytes"),
+        1 => {
+            let mut entry = digest;
+            entry[random.below(32) as usize] ^= 1 << random.below(8);
+            entry
+        }
+        _ => sha256(block),
+    }
+}
+
+/// Bit `n` of a half that starts at `start`, as the document prints it: 32-bit words, the highest bit first.
+fn bit(image: &[u8], start: usize, n: usize) -> usize {
+    let word = u32::from_le_bytes(image[start + n / 32 * 4..][..4].try_into().expect("four bytes"));
+    (word >> (31 - n % 32) & 1) as usize
+}
+
+/// Lays level 3's bytes into the copies that the image's bits name live.
+fn scatter(image: &mut [u8], partition: &Partition, level3: &[u8]) {
+    let descriptor = &partition.descriptor;
+    let area = partition.place.area.offset as usize;
+    let start = |offset: u128, size: u128, copy: usize| area + offset as usize + copy * size as usize;
+    let half = start(descriptor.level1.offset, descriptor.level1.size, descriptor.selector as usize);
+    for (block, bytes) in level3.chunks(1 << descriptor.level3.log).enumerate() {
+        let level2_block = block / 8 / (1 << descriptor.level2.log);
+        let level2 = descriptor.level2.extent;
+        let copy = bit(image, start(level2.offset, level2.size, bit(image, half, level2_block)), block);
+        let level3 = descriptor.level3.extent;
+        put(image, start(level3.offset, level3.size, copy) + (block << descriptor.level3.log), bytes);
+    }
+}

@@ -1,0 +1,38 @@
+//! The sample images of the repository: the same at each run.
+
+use super::random::Random;
+use super::shape::Wanted;
+use super::valid_image;
+use crate::rules::header::Kind;
+
+/// Name and bytes of each sample.
+pub fn samples() -> Vec<(&'static str, Vec<u8>)> {
+    let tight = Wanted { flag: Some(1), external: Some(false), tight: true, all_verified: true, ..Wanted::default() };
+    let loose = Wanted { external: Some(false), ..Wanted::default() };
+    let wanted = [
+        ("disa-one.img", Wanted { kind: Some(Kind::Disa), count: Some(1), data: Some((4096, 12)), ..tight }),
+        (
+            "diff.img",
+            Wanted {
+                kind: Some(Kind::Diff),
+                flag: Some(0),
+                data: Some((2500, 9)),
+                all_verified: true,
+                ..loose.clone()
+            },
+        ),
+        (
+            "disa-two.img",
+            Wanted { kind: Some(Kind::Disa), count: Some(2), flag: Some(1), data: Some((5000, 8)), ..loose.clone() },
+        ),
+        (
+            "external.img",
+            Wanted { external: Some(true), kind: Some(Kind::Diff), flag: Some(1), data: Some((3000, 10)), ..loose },
+        ),
+    ];
+    wanted
+        .into_iter()
+        .enumerate()
+        .map(|(index, (name, wanted))| (name, valid_image(&mut Random::new(index as u64 + 1), &wanted).image))
+        .collect()
+}

@@ -1,0 +1,219 @@
+//! Chooses where everything lies in a valid image: sizes, logarithms, orders and gaps.
+
+use super::random::Random;
+use crate::rules::descriptor::{Descriptor, Level, DIFI_SIZE, DPFS_SIZE, ENTRY, IVFC_SIZE, MASTER_SIZE};
+use crate::rules::extent::Extent;
+use crate::rules::header::{Header, Kind, PartitionPlace, FRONT, LARGEST_TABLE};
+use crate::rules::opening::{Opened, Partition};
+
+/// Properties asked of an image; whatever is `None` is left to chance.
+#[derive(Clone, Debug, Default)]
+pub struct Wanted {
+    pub kind: Option<Kind>,
+    pub count: Option<u64>,
+    pub flag: Option<u64>,
+    pub external: Option<bool>,
+    /// Level 4's size and logarithm.
+    pub data: Option<(u64, u64)>,
+    /// The table's size, if its descriptors leave room.
+    pub table_size: Option<u64>,
+    /// Up to so many spare entries and spare words of bits.
+    pub spare: Option<u64>,
+    /// As small as can be: no gaps, no spare entries, everything in the printed order.
+    pub tight: bool,
+    /// Every block is verified.
+    pub all_verified: bool,
+}
+
+/// Everything that opening will say of the image, and the image's length.
+pub fn choose(random: &mut Random, wanted: &Wanted) -> (Opened, usize) {
+    let kind = wanted.kind.unwrap_or_else(|| random.pick(&[Kind::Disa, Kind::Disa, Kind::Diff]));
+    let count = match kind {
+        Kind::Disa => wanted.count.unwrap_or_else(|| random.between(1, 2)),
+        Kind::Diff => 1,
+    };
+    let mut gaps = Gaps::choose(random, wanted);
+    let drafts: Vec<Draft> = (0..count).map(|_| draft_partition(random, &mut gaps, wanted)).collect();
+
+    // Descriptors in the table; a DIFF's is the whole table.
+    let (mut descriptors, end) =
+        gaps.lay_out(random, 0, &drafts.iter().map(|draft| draft.descriptor_size).collect::<Vec<_>>());
+    let largest = !wanted.tight && random.chance(2);
+    let table_size = end.max(wanted.table_size.map_or(if largest { LARGEST_TABLE } else { 0 }, u128::from));
+    if kind == Kind::Diff {
+        descriptors = vec![Extent { offset: 0, size: table_size }];
+    }
+
+    let mut sizes = vec![table_size, table_size];
+    sizes.extend(drafts.iter().map(|draft| draft.area_size));
+    let (in_image, length) = gaps.lay_out(random, FRONT, &sizes);
+
+    let partitions: Vec<Partition> = drafts
+        .into_iter()
+        .zip(descriptors.into_iter().zip(&in_image[2..]))
+        .map(|(draft, (descriptor, area))| Partition {
+            place: PartitionPlace { descriptor, area: *area },
+            descriptor: draft.descriptor,
+        })
+        .collect();
+    let header = Header {
+        kind,
+        flag: wanted.flag.unwrap_or_else(|| random.below(2)),
+        secondary: in_image[0],
+        primary: in_image[1],
+        partitions: partitions.iter().map(|partition| partition.place).collect(),
+    };
+    (Opened { header, partitions }, length as usize)
+}
+
+/// A tight image's blocks of DPFS level 3: so large that few bits do.
+const TIGHT_LEVEL3_LOG: u64 = 12;
+
+/// How an image spends space between things.
+struct Gaps {
+    tight: bool,
+    percent: u64,
+    largest: u64,
+}
+
+impl Gaps {
+    fn choose(random: &mut Random, wanted: &Wanted) -> Gaps {
+        Gaps { tight: wanted.tight, percent: random.pick(&[0, 30, 60, 100]), largest: random.pick(&[1, 7, 40]) }
+    }
+
+    fn next(&mut self, random: &mut Random) -> u128 {
+        if !self.tight && random.chance(self.percent) {
+            random.between(1, self.largest).into()
+        } else {
+            0
+        }
+    }
+
+    /// Places things of the given sizes from `start` on, in any order and with gaps before, between and after them.
+    fn lay_out(&mut self, random: &mut Random, start: u128, sizes: &[u128]) -> (Vec<Extent>, u128) {
+        let mut order: Vec<usize> = (0..sizes.len()).collect();
+        if !self.tight {
+            random.shuffle(&mut order);
+        }
+        let mut extents = vec![Extent { offset: 0, size: 0 }; sizes.len()];
+        let mut place = start;
+        for index in order {
+            place += self.next(random);
+            extents[index] = Extent { offset: place, size: sizes[index] };
+            place += sizes[index];
+        }
+        (extents, place + self.next(random))
+    }
+}
+
+/// A partition whose descriptor and area have no place yet.
+struct Draft {
+    descriptor: Descriptor,
+    descriptor_size: u128,
+    area_size: u128,
+}
+
+fn draft_partition(random: &mut Random, gaps: &mut Gaps, wanted: &Wanted) -> Draft {
+    let external = wanted.external.unwrap_or_else(|| random.chance(20));
+    let mut hash_levels = choose_hash_levels(random, wanted);
+
+    // The levels inside DPFS level 3.
+    let inside = if external { 3 } else { 4 };
+    let sizes: Vec<u128> = hash_levels[..inside].iter().map(|level| level.extent.size).collect();
+    let (extents, level3_size) = gaps.lay_out(random, 0, &sizes);
+    for (level, extent) in hash_levels.iter_mut().zip(extents) {
+        level.extent = extent;
+    }
+
+    // The three pairs and an external level 4 in the partition.
+    let level3_log = if wanted.tight { TIGHT_LEVEL3_LOG } else { choose_log(random, wanted, 5) };
+    let level2_size = bits_for(random, wanted, level3_size.div_ceil(1 << level3_log));
+    let level2_log = choose_log(random, wanted, 2);
+    let level1_size = bits_for(random, wanted, level2_size.div_ceil(1 << level2_log));
+    let mut sizes = vec![2 * level1_size, 2 * level2_size, 2 * level3_size];
+    if external {
+        sizes.push(hash_levels[3].extent.size);
+    }
+    let (pairs, area_size) = gaps.lay_out(random, 0, &sizes);
+    let half = |index: usize, size: u128| Extent { offset: pairs[index].offset, size };
+
+    // The pieces behind DIFI in the descriptor.
+    let (pieces, descriptor_size) = gaps.lay_out(random, DIFI_SIZE, &[IVFC_SIZE, DPFS_SIZE, MASTER_SIZE]);
+    Draft {
+        descriptor: Descriptor {
+            ivfc: pieces[0],
+            dpfs: pieces[1],
+            master: pieces[2],
+            selector: if wanted.tight { 0 } else { random.below(2) },
+            external: external.then(|| pairs[3].offset as u64),
+            hash_levels,
+            level1: half(0, level1_size),
+            level2: Level { extent: half(1, level2_size), log: level2_log },
+            level3: Level { extent: half(2, level3_size), log: level3_log },
+        },
+        descriptor_size,
+        area_size,
+    }
+}
+
+/// Sizes and logarithms of IVFC levels 1 to 4, from level 4 upwards. The offsets come later.
+fn choose_hash_levels(random: &mut Random, wanted: &Wanted) -> [Level; 4] {
+    let unplaced = |size: u128, log: u64| Level { extent: Extent { offset: 0, size }, log };
+    let (data_size, data_log) =
+        wanted.data.unwrap_or_else(|| (choose_data_size(random), choose_log(random, wanted, 5)));
+    let level4 = unplaced(data_size.into(), data_log);
+    let level3 = unplaced(entries_for(random, wanted, level4.blocks()), choose_log(random, wanted, 5));
+    // Level 1 is one block of at most 2^16 bytes, so level 2 must not have too many blocks.
+    let level2_size = entries_for(random, wanted, level3.blocks());
+    let mut level2 = unplaced(level2_size, choose_log(random, wanted, 5));
+    while level2.blocks() * ENTRY > 1 << 16 {
+        level2.log += 1;
+    }
+    let needed = level2.blocks() * ENTRY;
+    let mut level1_log = choose_log(random, wanted, 5);
+    while needed > 1 << level1_log {
+        level1_log += 1;
+    }
+    let level1_size = entries_for(random, wanted, level2.blocks()).min(1 << level1_log);
+    [unplaced(level1_size, level1_log), level2, level3, level4]
+}
+
+/// Mostly a handful of blocks; now and then a lot.
+fn choose_data_size(random: &mut Random) -> u64 {
+    match random.below(100) {
+        0..=9 => random.between(1, 40),
+        10..=79 => random.between(1, 400),
+        80..=97 => random.between(300, 5000),
+        _ => random.between(4000, 70000),
+    }
+}
+
+/// A logarithm from `lowest` to 16, mostly a small one.
+fn choose_log(random: &mut Random, wanted: &Wanted, lowest: u64) -> u64 {
+    if wanted.tight {
+        5
+    } else if random.chance(85) {
+        random.between(lowest, 8)
+    } else {
+        random.between(lowest, 16)
+    }
+}
+
+/// The size of a level that holds so many entries, with spare ones now and then.
+fn entries_for(random: &mut Random, wanted: &Wanted, entries: u128) -> u128 {
+    ENTRY * (entries + spare(random, wanted))
+}
+
+/// The size of a half that has so many bits: whole words, with spare ones now and then.
+fn bits_for(random: &mut Random, wanted: &Wanted, bits: u128) -> u128 {
+    4 * (bits.div_ceil(32) + spare(random, wanted))
+}
+
+fn spare(random: &mut Random, wanted: &Wanted) -> u128 {
+    let most = wanted.spare.unwrap_or(if random.chance(2) { 100 } else { 5 });
+    if wanted.tight || random.chance(60) {
+        0
+    } else {
+        random.between(1, most).into()
+    }
+}

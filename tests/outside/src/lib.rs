@@ -1,0 +1,12 @@
+//! An independent implementation of the container's rules, made from the papers alone, with a generator of images and
+//! a comparison of whatever claims to follow the same rules.
+
+#[cfg(feature = "gateway")]
+pub mod boundary;
+pub mod description;
+pub mod generate;
+pub mod model;
+pub mod program;
+pub mod rules;
+pub mod subject;
+pub mod trial;

@@ -1,0 +1,113 @@
+//! The reference model: what a caller may rely on over a whole list of calls, without images, hashes or copies.
+//! It follows one partition and is fed each call's name, its arguments and whether it was accepted.
+
+use crate::rules::refusal::Refusal;
+
+/// Level 4's bytes and which of its blocks are verified.
+#[derive(Clone, Debug, PartialEq, Eq)]
+pub struct Version {
+    pub bytes: Vec<u8>,
+    pub verified: Vec<bool>,
+}
+
+#[derive(Clone, Debug)]
+pub struct Model {
+    pub block_size: usize,
+    pub committed: Version,
+    /// Held from an accepted begin on, until an accepted commit or abandon.
+    pub staged: Option<Version>,
+}
+
+impl Version {
+    /// The blocks that have a byte in the range.
+    fn touched(place: usize, length: usize, block_size: usize) -> std::ops::Range<usize> {
+        if length == 0 {
+            0..0
+        } else {
+            place / block_size..(place + length - 1) / block_size + 1
+        }
+    }
+
+    /// What a read of this version gives: its bytes, or 10 with the lowest touched block that is not verified, or 9.
+    pub fn read(&self, place: u64, length: usize, block_size: usize) -> Result<&[u8], Refusal> {
+        if u128::from(place) + length as u128 > self.bytes.len() as u128 {
+            return Err(Refusal::PastTheEnd);
+        }
+        let place = place as usize;
+        match Version::touched(place, length, block_size).find(|block| !self.verified[*block]) {
+            Some(block) => Err(Refusal::NotVerified(block as u64)),
+            None => Ok(&self.bytes[place..place + length]),
+        }
+    }
+
+    /// What a write over this version answers after 12: 9, or 11 and 10 with the lowest block to which they apply.
+    /// `hash_verified` says of a block whether the hash blocks above it are verified.
+    pub fn write(
+        &self,
+        place: u64,
+        length: usize,
+        block_size: usize,
+        hash_verified: impl Fn(usize) -> bool,
+    ) -> Result<(), Refusal> {
+        if u128::from(place) + length as u128 > self.bytes.len() as u128 {
+            return Err(Refusal::PastTheEnd);
+        }
+        let place = place as usize;
+        let touched = Version::touched(place, length, block_size);
+        if let Some(block) = touched.clone().find(|block| !hash_verified(*block)) {
+            return Err(Refusal::HashNotVerified(block as u64));
+        }
+        let covered = |block: usize| {
+            let mut bytes = block * block_size..self.bytes.len().min((block + 1) * block_size);
+            bytes.all(|byte| (place..place + length).contains(&byte))
+        };
+        match touched.clone().find(|block| !self.verified[*block] && !covered(*block)) {
+            Some(block) => Err(Refusal::NotVerified(block as u64)),
+            None => Ok(()),
+        }
+    }
+
+    /// What "is it verified" answers of this version.
+    pub fn is_verified(&self, block: u64) -> Result<bool, Refusal> {
+        usize::try_from(block).ok().and_then(|block| self.verified.get(block)).copied().ok_or(Refusal::PastTheEnd)
+    }
+
+    pub fn count_verified(&self) -> u64 {
+        self.verified.iter().filter(|verified| **verified).count() as u64
+    }
+}
+
+impl Model {
+    pub fn new(block_size: usize, committed: Version) -> Model {
+        Model { block_size, committed, staged: None }
+    }
+
+    pub fn begin_accepted(&mut self) {
+        self.staged = Some(self.committed.clone());
+    }
+
+    /// A write to this partition. Without a staged version there is nothing to lay the bytes over.
+    pub fn write_accepted(&mut self, place: usize, data: &[u8]) {
+        if let Some(staged) = &mut self.staged {
+            staged.bytes[place..place + data.len()].copy_from_slice(data);
+            for block in Version::touched(place, data.len(), self.block_size) {
+                staged.verified[block] = true;
+            }
+        }
+    }
+
+    /// Answers whether the model knows what is committed now: it does not if it held no staged version.
+    pub fn commit_accepted(&mut self) -> bool {
+        match self.staged.take() {
+            Some(staged) => {
+                self.committed = staged;
+                true
+            }
+            None => false,
+        }
+    }
+
+    pub fn abandon_accepted(&mut self) {
+        self.staged = None;
+    }
+}

@@ -1,0 +1,14 @@
+//! The container's rules, in the order of the paper.
+
+pub mod calls;
+pub mod descriptor;
+pub mod dpfs;
+pub mod extent;
+pub mod header;
+pub mod ivfc;
+pub mod opening;
+pub mod protected;
+pub mod refusal;
+pub mod session;
+pub mod sha256;
+pub mod staging;

@@ -1,0 +1,46 @@
+//! Opening an image: refusals 1 to 7 in the paper's order, and what an accepted image says.
+
+use super::descriptor::{read_descriptor, Descriptor};
+use super::extent::Extent;
+use super::header::{read_header, Header, PartitionPlace, HEADER};
+use super::refusal::Refusal;
+use super::sha256::sha256;
+
+#[derive(Clone, Debug, PartialEq, Eq)]
+pub struct Partition {
+    pub place: PartitionPlace,
+    pub descriptor: Descriptor,
+}
+
+/// Every field that is read from an accepted image.
+#[derive(Clone, Debug, PartialEq, Eq)]
+pub struct Opened {
+    pub header: Header,
+    pub partitions: Vec<Partition>,
+}
+
+impl Opened {
+    pub fn partition(&self, number: u64) -> Result<&Partition, Refusal> {
+        usize::try_from(number).ok().and_then(|index| self.partitions.get(index)).ok_or(Refusal::NoSuchPartition)
+    }
+}
+
+/// The active table as a part of the image itself.
+pub fn active_table<'image>(image: &'image [u8], header: &Header) -> &'image [u8] {
+    header.active_table().of(image)
+}
+
+pub fn open(image: &[u8]) -> Result<Opened, Refusal> {
+    let header = read_header(image)?;
+    let table = active_table(image, &header);
+    let hash = Extent { offset: (HEADER + header.kind.hash_place()) as u128, size: 32 };
+    if sha256(table) != hash.of(image) {
+        return Err(Refusal::TableHash);
+    }
+    let mut partitions = Vec::new();
+    for place in &header.partitions {
+        let descriptor = read_descriptor(place.descriptor.of(table), place.area.size)?;
+        partitions.push(Partition { place: *place, descriptor });
+    }
+    Ok(Opened { header, partitions })
+}

@@ -1,0 +1,70 @@
+//! The fourteen ways to say no.
+
+#[derive(Clone, Copy, Debug, PartialEq, Eq)]
+pub enum Refusal {
+    /// 1: the image is shorter or longer than allowed.
+    Length,
+    /// 2: the first eight header bytes are neither kind's.
+    Kind,
+    /// 3: partition count or active flag.
+    CountOrFlag,
+    /// 4: a range, size or disjointness rule of the header.
+    HeaderPlaces,
+    /// 5: the active table's hash.
+    TableHash,
+    /// 6: a descriptor's opening bytes, piece sizes, selector, logarithms or level sizes.
+    DescriptorForm,
+    /// 7: a descriptor's places, disjointness or numbers of entries.
+    DescriptorPlaces,
+    /// 8: there is no such partition.
+    NoSuchPartition,
+    /// 9: past the end of level 4.
+    PastTheEnd,
+    /// 10: this block of level 4 is not verified.
+    NotVerified(u64),
+    /// 11: a hash block above this block of level 4 is not verified.
+    HashNotVerified(u64),
+    /// 12: a write to a partition whose level 4 is external.
+    ExternalWrite,
+    /// 13: idle where begun is needed, or begun where idle is.
+    WrongSession,
+    /// 14: the header or the inactive table is not as the session left it.
+    Outdated,
+}
+
+impl Refusal {
+    pub fn number(self) -> u64 {
+        match self {
+            Refusal::Length => 1,
+            Refusal::Kind => 2,
+            Refusal::CountOrFlag => 3,
+            Refusal::HeaderPlaces => 4,
+            Refusal::TableHash => 5,
+            Refusal::DescriptorForm => 6,
+            Refusal::DescriptorPlaces => 7,
+            Refusal::NoSuchPartition => 8,
+            Refusal::PastTheEnd => 9,
+            Refusal::NotVerified(_) => 10,
+            Refusal::HashNotVerified(_) => 11,
+            Refusal::ExternalWrite => 12,
+            Refusal::WrongSession => 13,
+            Refusal::Outdated => 14,
+        }
+    }
+
+    /// The block number that 10 and 11 carry; all others carry 0.
+    pub fn block(self) -> u64 {
+        match self {
+            Refusal::NotVerified(block) | Refusal::HashNotVerified(block) => block,
+            _ => 0,
+        }
+    }
+}
+
+/// An answer as one number: the refusal's number (0: accepted) in the low eight bits, the value above them.
+pub fn answer_code(answer: Result<u64, Refusal>) -> u64 {
+    match answer {
+        Ok(value) => value << 8,
+        Err(refusal) => refusal.block() << 8 | refusal.number(),
+    }
+}

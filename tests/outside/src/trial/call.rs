@@ -1,0 +1,192 @@
+//! One call with its arguments, how it is chosen, and what it gives.
+
+use crate::description::{Description, DESCRIPTION_LENGTH};
+use crate::generate::random::Random;
+use crate::rules::opening::Opened;
+use crate::rules::session::SessionBytes;
+use crate::subject::Subject;
+
+#[derive(Clone, Debug)]
+pub enum Call {
+    Open,
+    ReadCommitted { partition: u64, place: u64, length: usize },
+    ReadStaged { partition: u64, place: u64, length: usize },
+    Verified { partition: u64, block: u64 },
+    CountVerified { partition: u64 },
+    Begin,
+    Write { partition: u64, place: u64, data: Vec<u8> },
+    Commit,
+    Abandon,
+}
+
+impl std::fmt::Display for Call {
+    fn fmt(&self, out: &mut std::fmt::Formatter) -> std::fmt::Result {
+        match self {
+            Call::Write { partition, place, data } => {
+                write!(out, "Write {{ partition: {partition}, place: {place}, length: {} }}", data.len())
+            }
+            other => write!(out, "{other:?}"),
+        }
+    }
+}
+
+/// How many kinds of calls there are.
+pub const CALL_KINDS: usize = 9;
+
+/// Everything that a call hands back besides image and session.
+#[derive(Clone, Debug, PartialEq, Eq)]
+pub struct Outcome {
+    pub answer: u64,
+    pub buffer: Vec<u8>,
+    pub description: Description,
+}
+
+impl Outcome {
+    pub fn accepted(&self) -> bool {
+        self.answer & 0xFF == 0
+    }
+}
+
+/// What a buffer holds before a call, so that a change shows.
+pub fn untouched_buffer(length: usize) -> Vec<u8> {
+    (0..length).map(|index| (index * 37 + 11) as u8).collect()
+}
+
+pub const UNTOUCHED_DESCRIPTION: Description = [0xD5D5_D5D5_D5D5_D5D5; DESCRIPTION_LENGTH];
+
+impl Call {
+    pub fn buffer_length(&self) -> usize {
+        match self {
+            Call::ReadCommitted { length, .. } | Call::ReadStaged { length, .. } => *length,
+            _ => 0,
+        }
+    }
+
+    pub fn perform(&self, subject: &dyn Subject, image: &mut [u8], session: &mut SessionBytes) -> Outcome {
+        let mut buffer = untouched_buffer(self.buffer_length());
+        let mut description = UNTOUCHED_DESCRIPTION;
+        let answer = match self {
+            Call::Open => subject.open(image, &mut description),
+            Call::ReadCommitted { partition, place, .. } => {
+                subject.read_committed(image, *partition, *place, &mut buffer)
+            }
+            Call::ReadStaged { partition, place, .. } => {
+                subject.read_staged(image, session, *partition, *place, &mut buffer)
+            }
+            Call::Verified { partition, block } => subject.verified(image, *partition, *block),
+            Call::CountVerified { partition } => subject.count_verified(image, *partition),
+            Call::Begin => subject.begin(image, session),
+            Call::Write { partition, place, data } => subject.write(image, session, *partition, *place, data),
+            Call::Commit => subject.commit(image, session),
+            Call::Abandon => subject.abandon(session),
+        };
+        Outcome { answer, buffer, description }
+    }
+
+    /// Any call, with arguments that fit these partitions most of the time. In a begun session writes are frequent.
+    pub fn choose(random: &mut Random, opened: Option<&Opened>, begun: bool) -> Call {
+        let shares: [u64; CALL_KINDS] =
+            if begun { [2, 10, 18, 6, 2, 3, 44, 11, 4] } else { [3, 20, 4, 14, 5, 40, 6, 4, 4] };
+        let mut share = random.below(shares.iter().sum());
+        let mut number = 0;
+        while share >= shares[number] {
+            share -= shares[number];
+            number += 1;
+        }
+        Call::of_kind(random, opened, number)
+    }
+
+    /// A call of one of the nine kinds, in the order of the declarations above.
+    pub fn of_kind(random: &mut Random, opened: Option<&Opened>, number: usize) -> Call {
+        let partition = choose_partition(random, opened);
+        let (data_size, block_size) = data_shape(opened, partition);
+        match number {
+            0 => Call::Open,
+            1 | 2 => {
+                let (place, length) = choose_range(random, data_size, block_size);
+                if number == 1 {
+                    Call::ReadCommitted { partition, place, length }
+                } else {
+                    Call::ReadStaged { partition, place, length }
+                }
+            }
+            3 => Call::Verified { partition, block: choose_block(random, data_size.div_ceil(block_size)) },
+            4 => Call::CountVerified { partition },
+            5 => Call::Begin,
+            6 => {
+                let (place, length) = choose_range(random, data_size, block_size);
+                Call::Write { partition, place, data: random.bytes(length) }
+            }
+            7 => Call::Commit,
+            _ => Call::Abandon,
+        }
+    }
+}
+
+fn choose_partition(random: &mut Random, opened: Option<&Opened>) -> u64 {
+    let count = opened.map_or(2, |opened| opened.partitions.len() as u64);
+    if random.chance(5) {
+        random.pick(&[count, count + 1, 1 << 32, 1 << 63, u64::MAX])
+    } else {
+        random.below(count)
+    }
+}
+
+/// Size and block size of a partition's level 4; made up if there is no such partition.
+fn data_shape(opened: Option<&Opened>, partition: u64) -> (u64, u64) {
+    match opened.and_then(|opened| opened.partition(partition).ok()) {
+        Some(partition) => {
+            let level = partition.descriptor.hash_level(4);
+            (level.extent.size as u64, level.block_size() as u64)
+        }
+        None => (100, 32),
+    }
+}
+
+fn choose_block(random: &mut Random, blocks: u64) -> u64 {
+    match random.below(20) {
+        0 => blocks,
+        1 => blocks + random.below(40),
+        2 => random.pick(&[1 << 32, 1 << 56, 1 << 63, u64::MAX]),
+        _ => random.below(blocks),
+    }
+}
+
+/// A place and a length: inside level 4 or at its edges most of the time, often at the edges of blocks.
+fn choose_range(random: &mut Random, size: u64, block_size: u64) -> (u64, usize) {
+    if random.chance(8) {
+        return range_at_the_limits(random, size);
+    }
+    let from = choose_edge(random, size, block_size);
+    let to = match random.below(4) {
+        0 => from + random.below(40),
+        1 => from + block_size,
+        _ => choose_edge(random, size, block_size),
+    };
+    let (from, to) = (from.min(to), from.max(to).min(size));
+    (from, to.saturating_sub(from) as usize)
+}
+
+/// A place in level 4, its end included: anywhere, or at a block's edge give or take one byte.
+fn choose_edge(random: &mut Random, size: u64, block_size: u64) -> u64 {
+    let place = if random.chance(40) {
+        random.below(size + 1)
+    } else {
+        let edge = random.below(size / block_size + 2) * block_size;
+        (edge + random.below(3)).saturating_sub(1)
+    };
+    place.min(size)
+}
+
+/// Ranges that end just at, just past or far past the end.
+fn range_at_the_limits(random: &mut Random, size: u64) -> (u64, usize) {
+    let length = random.below(3) as usize;
+    match random.below(6) {
+        0 => (size, length),
+        1 => (size - 1, length),
+        2 => (size + 1, length),
+        3 => (u64::MAX - random.below(3), length),
+        4 => ((1 << 63) - random.below(2), length),
+        _ => (random.below(size), size as usize),
+    }
+}

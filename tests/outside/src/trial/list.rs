@@ -1,0 +1,418 @@
+//! A list of calls on one image. After each call the two views must equal the reference model's versions, protected
+//! bytes must be as before, and the subject must have done just the same.
+
+use super::call::{untouched_buffer, Call, Outcome, UNTOUCHED_DESCRIPTION};
+use super::properties::{check_begin, check_commit, check_write, require};
+use super::tally::Tally;
+use crate::description::{describe, name_at};
+use crate::generate::random::Random;
+use crate::generate::Sample;
+use crate::model::{Model, Version};
+use crate::rules::descriptor::ENTRY;
+use crate::rules::dpfs::View;
+use crate::rules::extent::Extent;
+use crate::rules::header::{HEADER, HEADER_LENGTH};
+use crate::rules::opening::{open, Opened};
+use crate::rules::protected::free_bytes;
+use crate::rules::refusal::{answer_code, Refusal};
+use crate::rules::session::{Session, SessionBytes, SESSION_LENGTH};
+use crate::subject::{Rules, Subject};
+
+pub struct List<'a> {
+    subject: Option<&'a dyn Subject>,
+    tally: &'a mut Tally,
+    image: Vec<u8>,
+    session: SessionBytes,
+    /// Session values that were handed out earlier.
+    kept: Vec<SessionBytes>,
+    /// What opening must say now.
+    opened: Opened,
+    /// The reference model of each partition.
+    models: Vec<Model>,
+    /// Which bytes calls other than commit may change, under the image that the last commit left.
+    free: Vec<bool>,
+}
+
+impl<'a> List<'a> {
+    pub fn new(sample: Sample, subject: Option<&'a dyn Subject>, tally: &'a mut Tally) -> List<'a> {
+        let free = free_bytes(&sample.image, &sample.opened);
+        let models = sample
+            .opened
+            .partitions
+            .iter()
+            .zip(sample.versions)
+            .map(|(partition, version)| Model::new(partition.descriptor.hash_level(4).block_size() as usize, version))
+            .collect();
+        List {
+            subject,
+            tally,
+            image: sample.image,
+            session: [0; SESSION_LENGTH],
+            kept: Vec::new(),
+            opened: sample.opened,
+            models,
+            free,
+        }
+    }
+
+    /// Makes so many calls, with power failures in between now and then.
+    pub fn run(&mut self, random: &mut Random, calls: u64) -> Result<(), String> {
+        self.check_views()?;
+        self.try_call(&Call::Open, &mut [0; SESSION_LENGTH])?;
+        for _ in 0..calls {
+            if random.chance(4) {
+                self.fail_power(random).map_err(|complaint| format!("after a power failure: {complaint}"))?;
+            }
+            if random.chance(5) {
+                self.disturb(random).map_err(|complaint| format!("after a foreign change: {complaint}"))?;
+            }
+            let call = Call::choose(random, Some(&self.opened), self.session[0] != 0);
+            let forged = random.chance(15);
+            let mut session = if forged { self.forge_session(random) } else { self.session };
+            self.try_call(&call, &mut session).map_err(|complaint| format!("{call}: {complaint}"))?;
+            if !forged || random.chance(30) {
+                self.kept.push(self.session);
+                self.session = session;
+            }
+        }
+        Ok(())
+    }
+
+    fn held(&self) -> bool {
+        self.models[0].staged.is_some()
+    }
+
+    fn header(&self) -> &[u8] {
+        &self.image[HEADER..HEADER + HEADER_LENGTH]
+    }
+
+    /// A session value that no call has handed out just now.
+    fn forge_session(&self, random: &mut Random) -> SessionBytes {
+        let mut session = [0; SESSION_LENGTH];
+        match random.below(6) {
+            0 => session[1..].copy_from_slice(&random.bytes(HEADER_LENGTH)), // idle, with leftovers
+            1 => session.copy_from_slice(&random.bytes(SESSION_LENGTH)),
+            2 if !self.kept.is_empty() => session = self.kept[random.below(self.kept.len() as u64) as usize],
+            3 => {
+                session[0] = 1;
+                session[1..].copy_from_slice(self.header());
+                session[1 + random.below(HEADER_LENGTH as u64) as usize] ^= 1 << random.below(8);
+            }
+            _ => {
+                session[0] = random.between(1, 255) as u8;
+                session[1..].copy_from_slice(self.header());
+            }
+        }
+        session
+    }
+
+    /// Makes one call and checks everything about it.
+    fn try_call(&mut self, call: &Call, session: &mut SessionBytes) -> Result<(), String> {
+        let before = self.image.clone();
+        let session_before = *session;
+        let outcome = call.perform(&Rules, &mut self.image, session);
+        self.tally.note(call, outcome.answer);
+        self.check_subject(call, &before, &session_before, session, &outcome)?;
+        self.check_prediction(call, &before, &session_before, &outcome)?;
+        if outcome.accepted() {
+            self.check_accepted(call, &before, &session_before, session, &outcome)?;
+        } else {
+            let untouched = self.image == before
+                && *session == session_before
+                && outcome.buffer == untouched_buffer(call.buffer_length())
+                && outcome.description == UNTOUCHED_DESCRIPTION;
+            require(untouched, || format!("refused with {:#x}, and yet something changed", outcome.answer))?;
+        }
+        self.check_views()
+    }
+
+    /// The subject must give the same answer, image, session and buffers.
+    fn check_subject(
+        &self,
+        call: &Call,
+        before: &[u8],
+        session_before: &SessionBytes,
+        session: &SessionBytes,
+        outcome: &Outcome,
+    ) -> Result<(), String> {
+        let Some(subject) = self.subject else { return Ok(()) };
+        compare_subject(subject, call, before, session_before, &self.image, session, outcome)
+    }
+
+    /// What the reference model alone says about the answer, as far as it does.
+    fn check_prediction(
+        &self,
+        call: &Call,
+        before: &[u8],
+        session: &SessionBytes,
+        outcome: &Outcome,
+    ) -> Result<(), String> {
+        let Some(answer) = self.predict(call, before, session) else { return Ok(()) };
+        match answer {
+            Prediction::Bytes(bytes) => {
+                require(outcome.answer == 0, || format!("answered {:#x}, not 0", outcome.answer))?;
+                require(outcome.buffer == bytes, || "the bytes read are wrong".into())
+            }
+            Prediction::Answer(answer) => {
+                require(outcome.answer == answer, || format!("answered {:#x}, not {answer:#x}", outcome.answer))
+            }
+        }
+    }
+
+    fn predict(&self, call: &Call, image: &[u8], session: &SessionBytes) -> Option<Prediction> {
+        let refused = |refusal: Refusal| Some(Prediction::Answer(answer_code(Err(refusal))));
+        let needs_begun = matches!(call, Call::ReadStaged { .. } | Call::Write { .. } | Call::Commit);
+        if needs_begun {
+            match Session::from_bytes(session) {
+                Session::Idle => return refused(Refusal::WrongSession),
+                Session::Begun(remembered) if remembered[..] != image[HEADER..HEADER + HEADER_LENGTH] => {
+                    return refused(Refusal::Outdated)
+                }
+                // Without a staged version the model does not know what the inactive table holds.
+                Session::Begun(_) if !self.held() => return None,
+                Session::Begun(_) => {}
+            }
+        }
+        match call {
+            Call::Open => Some(Prediction::Answer(0)),
+            Call::Commit => Some(Prediction::Answer(0)),
+            Call::Begin if session[0] == 0 => Some(Prediction::Answer(0)),
+            Call::Abandon if session[0] != 0 => Some(Prediction::Answer(0)),
+            Call::Begin | Call::Abandon => refused(Refusal::WrongSession),
+            Call::ReadCommitted { partition, .. }
+            | Call::ReadStaged { partition, .. }
+            | Call::Verified { partition, .. }
+            | Call::CountVerified { partition }
+            | Call::Write { partition, .. } => {
+                match self.models.get(usize::try_from(*partition).unwrap_or(usize::MAX)) {
+                    None => refused(Refusal::NoSuchPartition),
+                    Some(model) => self.predict_in_partition(call, image, model, *partition as usize),
+                }
+            }
+        }
+    }
+
+    /// The prediction for a call on a partition that exists; for the staged view, one that has a version.
+    fn predict_in_partition(&self, call: &Call, image: &[u8], model: &Model, partition: usize) -> Option<Prediction> {
+        let read = |version: &Version, place: u64, length: usize| match version.read(place, length, model.block_size) {
+            Ok(bytes) => Prediction::Bytes(bytes.to_vec()),
+            Err(refusal) => Prediction::Answer(answer_code(Err(refusal))),
+        };
+        match call {
+            Call::ReadCommitted { place, length, .. } => Some(read(&model.committed, *place, *length)),
+            Call::ReadStaged { place, length, .. } => model.staged.as_ref().map(|staged| read(staged, *place, *length)),
+            Call::Verified { block, .. } => {
+                Some(Prediction::Answer(answer_code(model.committed.is_verified(*block).map(u64::from))))
+            }
+            Call::CountVerified { .. } => Some(Prediction::Answer(answer_code(Ok(model.committed.count_verified())))),
+            Call::Write { place, data, .. } => {
+                let partition = &self.opened.partitions[partition];
+                if partition.descriptor.external.is_some() {
+                    return Some(Prediction::Answer(answer_code(Err(Refusal::ExternalWrite))));
+                }
+                // The model knows no hash blocks: which ones are verified comes from the image.
+                let hashes = View::staged(image, &self.opened, partition).verified_blocks(3);
+                let entries = partition.descriptor.hash_level(3).block_size() as usize / ENTRY as usize;
+                let staged = model.staged.as_ref()?;
+                let answer = staged.write(*place, data.len(), model.block_size, |block| hashes[block / entries]);
+                Some(Prediction::Answer(answer_code(answer.map(|()| 0))))
+            }
+            _ => None,
+        }
+    }
+
+    /// Checks an accepted call's effects and feeds it to the reference model.
+    fn check_accepted(
+        &mut self,
+        call: &Call,
+        before: &[u8],
+        session_before: &SessionBytes,
+        session: &SessionBytes,
+        outcome: &Outcome,
+    ) -> Result<(), String> {
+        let expected_session = match call {
+            Call::Begin => Session::begun(before).to_bytes(),
+            Call::Commit | Call::Abandon => [0; SESSION_LENGTH],
+            _ => *session_before,
+        };
+        require(*session == expected_session, || "the session is wrong".into())?;
+        match call {
+            Call::Begin => check_begin(before, &self.image, &self.opened)?,
+            Call::Commit => check_commit(before, &self.image, &self.opened)?,
+            Call::Write { partition, place, data } => {
+                let partition = &self.opened.partitions[*partition as usize];
+                let range = Extent::new(*place, data.len() as u64);
+                let moved_before = check_write(before, &self.image, &self.opened, partition, range)?;
+                self.tally.writes_upon_writes += u64::from(moved_before);
+                require(!data.is_empty() || self.image == before, || "an empty write changed the image".into())?;
+            }
+            _ => require(self.image == before, || "the image changed".into())?,
+        }
+        if let Call::Open = call {
+            let expected = describe(&self.opened);
+            if let Some(index) = (0..expected.len()).find(|index| outcome.description[*index] != expected[*index]) {
+                return Err(format!("the description's {} is wrong", name_at(index)));
+            }
+        }
+        if let Call::Commit = call {
+            self.follow_commit()
+        } else {
+            self.check_protected(before)?;
+            self.feed(call);
+            Ok(())
+        }
+    }
+
+    fn feed(&mut self, call: &Call) {
+        match call {
+            Call::Begin => self.models.iter_mut().for_each(Model::begin_accepted),
+            Call::Abandon => self.models.iter_mut().for_each(Model::abandon_accepted),
+            Call::Write { partition, place, data } => {
+                self.models[*partition as usize].write_accepted(*place as usize, data);
+            }
+            _ => {}
+        }
+    }
+
+    /// After a commit the other table is active, and other bytes are protected.
+    fn follow_commit(&mut self) -> Result<(), String> {
+        self.opened.header.flag = 1 - self.opened.header.flag;
+        for partition in &mut self.opened.partitions {
+            partition.descriptor.selector = 1 - partition.descriptor.selector;
+        }
+        require(open(&self.image).as_ref() == Ok(&self.opened), || "opening says something else".into())?;
+        for (model, partition) in self.models.iter_mut().zip(&self.opened.partitions) {
+            if !model.commit_accepted() {
+                // A forged session has committed something that the model never saw: it starts anew.
+                model.committed = version_of(&View::committed(&self.image, &self.opened, partition));
+            }
+        }
+        self.free = free_bytes(&self.image, &self.opened);
+        Ok(())
+    }
+
+    fn check_protected(&self, before: &[u8]) -> Result<(), String> {
+        let changed = (0..before.len()).find(|place| !self.free[*place] && before[*place] != self.image[*place]);
+        match changed {
+            Some(place) => Err(format!("the protected byte at {place:#x} changed")),
+            None => Ok(()),
+        }
+    }
+
+    /// Both views equal the model's versions, in every byte and in which blocks are verified.
+    fn check_views(&self) -> Result<(), String> {
+        for (letter, (partition, model)) in ["A", "B"].iter().zip(self.opened.partitions.iter().zip(&self.models)) {
+            let committed = version_of(&View::committed(&self.image, &self.opened, partition));
+            require(committed == model.committed, || format!("{letter}'s committed view is wrong"))?;
+            if let Some(version) = &model.staged {
+                let staged = version_of(&View::staged(&self.image, &self.opened, partition));
+                require(staged == *version, || format!("{letter}'s staged view is wrong"))?;
+            }
+        }
+        Ok(())
+    }
+
+    /// Power fails inside a call: any free byte may hold anything. Opening and the committed view are as before.
+    fn fail_power(&mut self, random: &mut Random) -> Result<(), String> {
+        self.tally.power_failures += 1;
+        let share = random.pick(&[100, 100, 50, 5]);
+        let table = self.opened.header.inactive_table();
+        let keep_table = random.chance(30);
+        for (place, byte) in self.image.iter_mut().enumerate() {
+            let in_table = (table.offset..table.end()).contains(&(place as u128));
+            if self.free[place] && !(keep_table && in_table) && random.chance(share) {
+                *byte = random.below(256) as u8;
+            }
+        }
+        self.models.iter_mut().for_each(Model::abandon_accepted);
+        if random.chance(70) {
+            self.kept.push(self.session);
+            self.session = [0; SESSION_LENGTH];
+        }
+        self.check_views()?;
+        self.try_call(&Call::Open, &mut [0; SESSION_LENGTH])?;
+        for partition in 0..self.models.len() {
+            let length = self.models[partition].committed.bytes.len();
+            let whole = Call::ReadCommitted { partition: partition as u64, place: 0, length };
+            self.try_call(&whole, &mut [0; SESSION_LENGTH])?;
+        }
+        Ok(())
+    }
+
+    /// Somebody else changes a byte between two calls.
+    fn disturb(&mut self, random: &mut Random) -> Result<(), String> {
+        match random.below(3) {
+            // The first 0x100 bytes are never read: nothing follows from them.
+            0 => self.image[random.below(HEADER as u64) as usize] ^= 1 << random.below(8),
+            // Unused header bytes: sessions begun before are outdated.
+            1 => {
+                let unused = self.opened.header.kind.hash_place() + 32;
+                let place = HEADER as u64 + random.between(unused as u64, HEADER_LENGTH as u64 - 1);
+                self.image[place as usize] ^= 1 << random.below(8);
+            }
+            _ => self.disturb_inactive_table(random)?,
+        }
+        if random.chance(50) {
+            // The caller notices and starts again.
+            self.kept.push(self.session);
+            self.session = [0; SESSION_LENGTH];
+        }
+        self.check_views()
+    }
+
+    /// A staged table with a changed bit is outdated, unless the bit is part of a master hash.
+    fn disturb_inactive_table(&mut self, random: &mut Random) -> Result<(), String> {
+        let was_staged = self.held();
+        let table = self.opened.header.inactive_table();
+        let place = u128::from(random.below(table.size as u64));
+        self.image[(table.offset + place) as usize] ^= 1 << random.below(8);
+        self.models.iter_mut().for_each(Model::abandon_accepted);
+        if !was_staged {
+            return Ok(());
+        }
+        let in_master_hash = self.opened.partitions.iter().any(|partition| {
+            let start = partition.place.descriptor.offset + partition.descriptor.master.offset;
+            (start..start + partition.descriptor.master.size).contains(&place)
+        });
+        let mut session = Session::begun(&self.image).to_bytes();
+        let call = Call::ReadStaged { partition: 0, place: 0, length: 0 };
+        let outcome = call.perform(&Rules, &mut self.image, &mut session);
+        let number = if in_master_hash { 0 } else { 14 };
+        require(outcome.answer == number, || format!("{call} answered {:#x}, not {number}", outcome.answer))?;
+        self.try_call(&call, &mut session)
+    }
+}
+
+enum Prediction {
+    /// Accepted, with these bytes in the buffer.
+    Bytes(Vec<u8>),
+    Answer(u64),
+}
+
+fn version_of(view: &View) -> Version {
+    Version { bytes: view.data(), verified: view.verified_blocks(4) }
+}
+
+/// Makes the same call with the subject and compares all that came of it.
+pub fn compare_subject(
+    subject: &dyn Subject,
+    call: &Call,
+    before: &[u8],
+    session_before: &SessionBytes,
+    image: &[u8],
+    session: &SessionBytes,
+    outcome: &Outcome,
+) -> Result<(), String> {
+    let mut other_image = before.to_vec();
+    let mut other_session = *session_before;
+    let other = call.perform(subject, &mut other_image, &mut other_session);
+    require(other.answer == outcome.answer, || {
+        format!("the subject answered {:#x}, not {:#x}", other.answer, outcome.answer)
+    })?;
+    let place = (0..image.len()).find(|place| image[*place] != other_image[*place]);
+    require(place.is_none(), || format!("the subject's image differs at {:#x}", place.unwrap_or(0)))?;
+    require(*session == other_session, || "the subject's session differs".into())?;
+    require(other.buffer == outcome.buffer, || "the subject's buffer differs".into())?;
+    let index = (0..other.description.len()).find(|index| other.description[*index] != outcome.description[*index]);
+    require(index.is_none(), || format!("the subject's description differs: {}", name_at(index.unwrap_or(0))))
+}

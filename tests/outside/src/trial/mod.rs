@@ -1,0 +1,151 @@
+//! Random cases: lists of calls on valid images, damaged images, and images with random changes.
+
+pub mod call;
+pub mod list;
+pub mod properties;
+pub mod tally;
+
+use crate::generate::damage::{any_damage, damaged_image, mutate, patient, Damage, DAMAGES};
+use crate::generate::random::Random;
+use crate::generate::shape::Wanted;
+use crate::generate::{valid_image, Sample};
+use crate::model::Version;
+use crate::rules::dpfs::View;
+use crate::rules::header::LONGEST_IMAGE;
+use crate::rules::opening::{open, Opened};
+use crate::rules::session::{Session, SessionBytes, SESSION_LENGTH};
+use crate::subject::{Rules, Subject};
+use call::{Call, CALL_KINDS, UNTOUCHED_DESCRIPTION};
+use list::{compare_subject, List};
+use properties::require;
+use tally::Tally;
+
+/// Runs the case of this seed; the complaint says what went wrong.
+pub fn run_case(seed: u64, subject: Option<&dyn Subject>, tally: &mut Tally) -> Result<(), String> {
+    let random = &mut Random::new(seed);
+    match random.below(100) {
+        0..=69 => {
+            let sample = valid_image(random, &Wanted::default());
+            let calls = random.between(1, 30);
+            List::new(sample, subject, tally).run(random, calls)
+        }
+        70..=84 => {
+            let damage = any_damage(random);
+            let image = damaged_image(random, &damage).image;
+            refused_image(random, image, Some(&damage), subject, tally)
+                .map_err(|complaint| format!("{}: {complaint}", damage.name))
+        }
+        85..=96 => {
+            let mut patient = patient(random, &Wanted::default());
+            mutate(random, &mut patient);
+            any_image(random, patient.image, subject, tally)
+        }
+        _ => {
+            let length = random.pick(&[0, 1, 0x100, 0x1FF, 0x200, 0x201, 0x400, 3000]);
+            let image = random.bytes(length);
+            any_image(random, image, subject, tally)
+        }
+    }
+}
+
+/// How often every run tries each damage, so that each of its values comes up.
+const TRIES_OF_EACH_DAMAGE: u64 = 40;
+
+/// Cases that every run must have tried: each damage, and the limits of an image's length.
+pub fn run_fixed_cases(subject: Option<&dyn Subject>, tally: &mut Tally) -> Result<(), String> {
+    let random = &mut Random::new(0);
+    for damage in DAMAGES {
+        for _ in 0..TRIES_OF_EACH_DAMAGE {
+            let image = damaged_image(random, damage).image;
+            refused_image(random, image, Some(damage), subject, tally)
+                .map_err(|complaint| format!("{}: {complaint}", damage.name))?;
+        }
+    }
+    let mut image = valid_image(&mut Random::new(0), &Wanted::default()).image;
+    for (length, number) in [(LONGEST_IMAGE, 0), (LONGEST_IMAGE + 1, 1)] {
+        image.resize(length, 0x55);
+        check_open(&image, number, subject).map_err(|complaint| format!("length {length:#x}: {complaint}"))?;
+    }
+    Ok(())
+}
+
+fn check_open(image: &[u8], number: u64, subject: Option<&dyn Subject>) -> Result<(), String> {
+    let mut described = UNTOUCHED_DESCRIPTION;
+    let answer = Rules.open(image, &mut described);
+    require(answer == number, || format!("opening answered {answer:#x}, not {number}"))?;
+    let Some(subject) = subject else { return Ok(()) };
+    let mut other = UNTOUCHED_DESCRIPTION;
+    let answer = subject.open(image, &mut other);
+    require(answer == number, || format!("the subject's opening answered {answer:#x}, not {number}"))?;
+    require(described == other, || "the subject's description differs".into())
+}
+
+/// An image of which nothing is known: the answers must agree, and if it opens, the rules hold for it too.
+fn any_image(
+    random: &mut Random,
+    image: Vec<u8>,
+    subject: Option<&dyn Subject>,
+    tally: &mut Tally,
+) -> Result<(), String> {
+    match open(&image) {
+        Ok(opened) => {
+            let versions = versions(&image, &opened);
+            List::new(Sample { image, opened, versions }, subject, tally).run(random, 6)
+        }
+        Err(_) => refused_image(random, image, None, subject, tally),
+    }
+}
+
+fn versions(image: &[u8], opened: &Opened) -> Vec<Version> {
+    let view = |partition| View::committed(image, opened, partition);
+    opened
+        .partitions
+        .iter()
+        .map(|partition| Version { bytes: view(partition).data(), verified: view(partition).verified_blocks(4) })
+        .collect()
+}
+
+/// Every call but abandon answers opening's number, whatever its arguments and session, and changes nothing.
+fn refused_image(
+    random: &mut Random,
+    image: Vec<u8>,
+    damage: Option<&Damage>,
+    subject: Option<&dyn Subject>,
+    tally: &mut Tally,
+) -> Result<(), String> {
+    let number = match damage {
+        Some(damage) => damage.number,
+        None => open(&image).err().map_or(0, |refusal| refusal.number()),
+    };
+    for kind in 0..CALL_KINDS {
+        let call = Call::of_kind(random, None, kind);
+        let session_before = choose_session(random, &image);
+        let mut after = image.clone();
+        let mut session = session_before;
+        let outcome = call.perform(&Rules, &mut after, &mut session);
+        tally.note(&call, outcome.answer);
+        if let Some(subject) = subject {
+            compare_subject(subject, &call, &image, &session_before, &after, &session, &outcome)?;
+        }
+        if let Call::Abandon = call {
+            let expected = if session_before[0] == 0 { 13 } else { 0 };
+            require(outcome.answer == expected, || format!("abandon answered {:#x}", outcome.answer))?;
+        } else {
+            require(outcome.answer == number, || format!("{call} answered {:#x}, not {number}", outcome.answer))?;
+            require(session == session_before, || format!("{call} changed the session"))?;
+        }
+        require(after == image, || format!("{call} changed the image"))?;
+    }
+    Ok(())
+}
+
+/// Idle, begun with the image's header if it has one, or noise.
+fn choose_session(random: &mut Random, image: &[u8]) -> SessionBytes {
+    let mut session = [0; SESSION_LENGTH];
+    match random.below(3) {
+        0 => {}
+        1 if image.len() >= 0x200 => session = Session::begun(image).to_bytes(),
+        _ => session.copy_from_slice(&random.bytes(SESSION_LENGTH)),
+    }
+    session
+}

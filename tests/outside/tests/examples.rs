@@ -1,0 +1,212 @@
+//! The paper's examples P6 to P12 and the ones without a number, on images built for them. (P1 to P5 are next to the
+//! bits, in model/dpfs.rs.)
+
+use outside::generate::contents;
+use outside::generate::random::Random;
+use outside::generate::samples::samples;
+use outside::generate::shape::Wanted;
+use outside::generate::Sample;
+use outside::program::program_output;
+use outside::rules::calls::{abandon, begin, commit, read_committed, read_staged, verified, write};
+use outside::rules::descriptor::{Descriptor, Level, DPFS_SIZE, ENTRY, IVFC_SIZE, MASTER_SIZE};
+use outside::rules::dpfs::View;
+use outside::rules::extent::Extent;
+use outside::rules::header::{Header, Kind, PartitionPlace, HEADER};
+use outside::rules::opening::{open, Opened, Partition};
+use outside::rules::refusal::Refusal;
+use outside::rules::session::Session;
+use outside::rules::sha256::sha256;
+
+/// Size and logarithm of each level; everything is packed without gaps.
+struct Sizes {
+    hash_levels: [(u128, u64); 4],
+    level1: u128,
+    level2: (u128, u64),
+    level3: (u128, u64),
+}
+
+const DESCRIPTOR_SIZE: u128 = 0x12C;
+const TABLE: u128 = 0x200;
+
+/// A DIFF whose primary table is active, with exactly these sizes; every block is verified.
+fn diff_image(sizes: &Sizes) -> Sample {
+    let mut place = 0;
+    let hash_levels = sizes.hash_levels.map(|(size, log)| {
+        let extent = Extent { offset: place, size };
+        place += size;
+        Level { extent, log }
+    });
+    let level1 = Extent { offset: 0, size: sizes.level1 };
+    let level2 = Extent { offset: level1.pair().end(), size: sizes.level2.0 };
+    let level3 = Extent { offset: level2.pair().end(), size: sizes.level3.0 };
+    let descriptor = Descriptor {
+        ivfc: Extent { offset: 0x44, size: IVFC_SIZE },
+        dpfs: Extent { offset: 0xBC, size: DPFS_SIZE },
+        master: Extent { offset: 0x10C, size: MASTER_SIZE },
+        selector: 0,
+        external: None,
+        hash_levels,
+        level1,
+        level2: Level { extent: level2, log: sizes.level2.1 },
+        level3: Level { extent: level3, log: sizes.level3.1 },
+    };
+    let secondary = Extent { offset: TABLE, size: DESCRIPTOR_SIZE };
+    let primary = Extent { offset: secondary.end(), size: DESCRIPTOR_SIZE };
+    let area = Extent { offset: primary.end(), size: level3.pair().end() };
+    let place = PartitionPlace { descriptor: Extent { offset: 0, size: DESCRIPTOR_SIZE }, area };
+    let header = Header { kind: Kind::Diff, flag: 0, secondary, primary, partitions: vec![place] };
+    let opened = Opened { header, partitions: vec![Partition { place, descriptor }] };
+    let wanted = Wanted { tight: true, all_verified: true, ..Wanted::default() };
+    contents::build(&mut Random::new(7), &wanted, opened, area.end() as usize)
+}
+
+/// A DIFF with a level 4 of this size and logarithm, and a level 3 with this logarithm.
+fn diff_with_data(size: u128, log: u64, level3_log: u64) -> Sample {
+    let entries = ENTRY * size.div_ceil(1 << log);
+    let blocks = entries.div_ceil(1 << level3_log);
+    let hash_levels = [(32, 5), (32 * blocks, 16), (entries, level3_log), (size, log)];
+    let total: u128 = hash_levels.iter().map(|(size, _)| size).sum();
+    diff_image(&Sizes { hash_levels, level1: 4, level2: (4 * total.div_ceil(32 << 9), 2), level3: (total, 9) })
+}
+
+fn number<T>(answer: Result<T, Refusal>) -> u64 {
+    answer.map_or_else(Refusal::number, |_| 0)
+}
+
+#[test]
+fn p6_bits_of_level_2() {
+    let sizes = Sizes {
+        hash_levels: [(32, 5), (32, 5), (32, 5), (64, 6)],
+        level1: 4,
+        level2: (0x370, 7),
+        level3: (0x1B7F000, 12),
+    };
+    let Sample { mut image, opened, .. } = diff_image(&sizes);
+    assert_eq!(number(open(&image)), 0);
+
+    let table = opened.header.primary;
+    let level2_size = (table.offset + 0xBC + 0x28) as usize;
+    image[level2_size..level2_size + 8].copy_from_slice(&0x36Cu64.to_le_bytes());
+    let digest = sha256(table.of(&image));
+    image[HEADER + 0x34..HEADER + 0x54].copy_from_slice(&digest);
+    assert_eq!(open(&image), Err(Refusal::DescriptorPlaces));
+}
+
+#[test]
+fn p7_a_short_last_block() {
+    let sample = diff_with_data(0x1001, 12, 5);
+    let partition = &sample.opened.partitions[0];
+    assert_eq!(partition.descriptor.hash_level(4).blocks(), 2);
+    let view = View::committed(&sample.image, &sample.opened, partition);
+    let mut second = vec![sample.versions[0].bytes[0x1000]];
+    second.resize(0x1000, 0);
+    assert_eq!(view.padded_block(4, 1), second);
+    assert_eq!(verified(&sample.image, 0, 1), Ok(true));
+    assert_eq!(verified(&sample.image, 0, 2), Err(Refusal::PastTheEnd));
+}
+
+#[test]
+fn p8_to_p10_the_end_of_level_4() {
+    let sample = diff_with_data(0x1000, 12, 5);
+    let read = |place: u64, length: usize| number(read_committed(&sample.image, 0, place, &mut vec![0; length]));
+    assert_eq!(read(0x1000, 0), 0);
+    assert_eq!(read(0x1000, 1), 9);
+    assert_eq!(read(0x1001, 0), 9);
+    assert_eq!(read(u64::MAX, 1), 9);
+
+    let mut image = sample.image.clone();
+    let mut session = Session::Idle;
+    begin(&mut image, &mut session).expect("idle");
+    let mut written = |place: u64, length: usize| number(write(&mut image, &session, 0, place, &vec![1; length]));
+    assert_eq!(written(0x1000, 0), 0);
+    assert_eq!(written(0x1000, 1), 9);
+    assert_eq!(written(0x1001, 0), 9);
+    assert_eq!(written(u64::MAX, 1), 9);
+}
+
+#[test]
+fn p11_the_block_with_an_entry() {
+    let sample = diff_with_data(131 * 32, 5, 12);
+    let partition = &sample.opened.partitions[0];
+    let view = View::committed(&sample.image, &sample.opened, partition);
+    let entry = view.level_bytes(3, 0x1040, 0x1060);
+    assert_eq!(view.entry(4, 130), entry);
+    assert_eq!(entry, sha256(&sample.versions[0].bytes[130 * 32..]));
+    assert_eq!(view.holder(3, 130), 1);
+}
+
+#[test]
+fn p12_the_flag_of_a_diff() {
+    let mut image = diff_with_data(40, 5, 5).image;
+    assert_eq!(number(open(&image)), 0);
+    image[HEADER + 0x30..HEADER + 0x34].copy_from_slice(&[0, 1, 0, 0]);
+    assert_eq!(open(&image), Err(Refusal::CountOrFlag));
+    image[HEADER + 0x30..HEADER + 0x34].copy_from_slice(&[1, 0, 0, 0]);
+    // The secondary table is noise so far, and its hash is the one that counts now.
+    assert_eq!(open(&image), Err(Refusal::TableHash));
+    let table = Extent { offset: TABLE, size: DESCRIPTOR_SIZE };
+    image.copy_within(table.end() as usize..(table.end() + table.size) as usize, TABLE as usize);
+    let opened = open(&image).expect("the secondary table is a copy of the primary");
+    assert_eq!(opened.header.active_table(), table);
+}
+
+#[test]
+fn lengths() {
+    assert_eq!(open(&[0; 0x1FF]), Err(Refusal::Length));
+    assert_eq!(open(&[0; 0x200]), Err(Refusal::Kind));
+    let mut image = diff_with_data(40, 5, 5).image;
+    image.resize(0x4000000, 0x55);
+    assert_eq!(number(open(&image)), 0);
+    image.push(0);
+    assert_eq!(open(&image), Err(Refusal::Length));
+}
+
+#[test]
+fn the_program() {
+    let samples = samples();
+    let one = &samples.iter().find(|(name, _)| *name == "disa-one.img").expect("the sample is there").1;
+    assert_eq!(program_output(one), "DISA\npartitions 1\ntable secondary\nA level4 4096 blocks 1 stands 1\n");
+    let mut damaged = one.clone();
+    damaged[HEADER + 0x6C] ^= 1;
+    assert_eq!(program_output(&damaged), "refused 5\n");
+    assert_eq!(program_output(&vec![0; 65_536]), "refused 2\n");
+    assert_eq!(program_output(&vec![0; 65_537]), "too long\n");
+}
+
+/// The samples in the repository are the ones that the command writes.
+#[test]
+fn the_samples_are_up_to_date() {
+    for (name, image) in samples() {
+        let path = format!("{}/../../samples/{name}", env!("CARGO_MANIFEST_DIR"));
+        let stored = std::fs::read(&path).unwrap_or_else(|error| panic!("{path}: {error}"));
+        assert!(stored == image, "{name} differs: run `outside samples`");
+        assert!(image.len() < 65_536);
+    }
+}
+
+/// One session from begin to commit, said by hand.
+#[test]
+fn a_session() {
+    let Sample { mut image, versions, .. } = diff_with_data(300, 6, 5);
+    let old = &versions[0].bytes;
+    let mut session = Session::Idle;
+    let mut buffer = [0; 20];
+    assert_eq!(abandon(&mut session), Err(Refusal::WrongSession));
+    begin(&mut image, &mut session).expect("idle");
+    assert_eq!(begin(&mut image, &mut session.clone()), Err(Refusal::WrongSession));
+    write(&mut image, &session, 0, 60, &[0xAA; 10]).expect("verified");
+    write(&mut image, &session, 0, 65, &[0xBB; 10]).expect("verified");
+    read_staged(&image, &session, 0, 58, &mut buffer).expect("verified");
+    let mut expected = old[58..78].to_vec();
+    expected[2..7].fill(0xAA);
+    expected[7..17].fill(0xBB);
+    assert_eq!(buffer[..], expected);
+    read_committed(&image, 0, 58, &mut buffer).expect("verified");
+    assert_eq!(buffer, old[58..78]);
+    let stale = session.clone();
+    commit(&mut image, &mut session).expect("begun");
+    assert_eq!(session, Session::Idle);
+    read_committed(&image, 0, 58, &mut buffer).expect("verified");
+    assert_eq!(buffer[..], expected);
+    assert_eq!(write(&mut image, &stale, 0, 0, &[]), Err(Refusal::Outdated));
+}
