@@ -4,5 +4,5 @@
 // change what a call is performed by, or what is claimed of it):
 // - history: begin_stages_nothing, commit_lands_nothing, commit_keeps_staged, abandon_keeps_staged, committed_read_of_staged, staged_read_of_committed,
 //   staged_read_while_idle, untouched_block_refused, write_to_any_partition;
-// - crash and sparing: write_lands_at_once, abandon_lands, every_byte_free;
+// - crash: every_byte_free, write_lands_at_once, begin_lands_at_once; sparing: the last two;
 // - landing: first_value_wins, write_marks_nothing.
