@@ -190,19 +190,16 @@ module _ (image : List ℕ) (c : Container) (g : Guarantees image c) (session : 
 
 -- ---- abandon
 
-abandoned-is : (session : Session) → abandon session
-    ≡ cond (session .begun) (record { outcome = outcome.Accepted; session = idle }) (record { outcome = outcome.Refused SessionState; session = session })
-unfolding abandon
-abandoned-is session = refl
-
 pub abandon-idle : (session : Session) (step : Step) → session .begun ≡ false → Refuses step session SessionState
     → (step .outcome ≡ abandon session .outcome) × (step .session ≡ abandon session .session)
+unfolding abandon
 abandon-idle session step b (o, s) =
-    let e = abandoned-is session ∙ no-of (session .begun) _ _ b in
+    let e : abandon session ≡ record { outcome = outcome.Refused SessionState; session = session } = no-of (session .begun) _ _ b in
     (o ∙ sym (ap (λ (x : Abandoned). x .outcome) e), s ∙ sym (ap (λ (x : Abandoned). x .session) e))
 
 pub abandon-done : (session next : Session) → session .begun ≡ true → next ≡ idle
     → (outcome.Accepted ≡ abandon session .outcome) × (next ≡ abandon session .session)
+unfolding abandon
 abandon-done session next b i =
-    let e = abandoned-is session ∙ yes-of (session .begun) _ _ b in
+    let e : abandon session ≡ record { outcome = outcome.Accepted; session = idle } = yes-of (session .begun) _ _ b in
     (sym (ap (λ (x : Abandoned). x .outcome) e), i ∙ sym (ap (λ (x : Abandoned). x .session) e))
