@@ -1,9 +1,10 @@
 -- Runs of level 3 that stand in one piece of the image. Assumes nothing.
-use mathlib.Core.Path.{_≡_, sym, ap, _∙_}
+use mathlib.Core.Path.{_≡_, refl, sym, ap, _∙_}
 use mathlib.Core.List.{List}
-use mathlib.Core.Bool.{Bool, true, false, cond}
+use mathlib.Core.Bool.{Bool, Bool·beq, true, false, not, cond, true≢false}
 use Prim.Native.Nat.{ℕ, _+_, _-_, _*_, _≤_, _<_, min}
 use native.Mathlib.Omega.{arith}
+use native.Mathlib.Decide.{decLt}
 use native.Mathlib.Nat.{suc-mul, add-sub-cancel-left}
 use native.Mathlib.Numerals.{add-one}
 use lib.ListN.{length, getD, take, drop, length-take, length-drop}
@@ -11,11 +12,11 @@ use lib.Pow.{pow-mono, shr-le}
 use Rattle.number.specs.declared.Level.{Level}
 use Rattle.number.specs.Blocks.{blockSize, blockOf}
 use Rattle.number.specs.Bytes.{bytes}
-use Rattle.number.proofs.ListLaws.{length-part, getD-part, bytes-is}
+use Rattle.number.proofs.ListLaws.{length-part, getD-part, bytes-is, length-bytes}
 use Rattle.number.proofs.BlockLaws.{block-starts, block-ends, block-of-byte}
 use Rattle.dpfs.specs.declared.Tree.{Tree}
 use Rattle.dpfs.specs.Tree.{place, levelByte, select3, content}
-use Rattle.dpfs.specs.Rules.{WellPlaced, runLength}
+use Rattle.dpfs.specs.Rules.{WellPlaced, OneCopy, runLength}
 
 -- ---- how long a run is
 
@@ -75,20 +76,19 @@ half-length : (image : List ℕ) (l : Level) (second : Bool) → l .offset + 2 *
 half-length image l true h = length-part image (l .offset + l .size) (l .size) (omega arith)
 half-length image l false h = length-part image (l .offset) (l .size) (omega arith)
 
--- the part of the half that the bit names is the run of level 3's bytes, where they all have the bit's block
-run-bytes : (tree : Tree) (image : List ℕ) (half bit : Bool) (x n : ℕ)
-    → tree .level3 .offset + 2 * tree .level3 .size ≤ length image → x + n ≤ tree .level3 .size
-    → bit ≡ select3 tree image half (blockOf (tree .level3) x) → ((k : ℕ) → k < n → blockOf (tree .level3) (x + k) ≡ blockOf (tree .level3) x)
-    → take n (drop x (cond bit (take (tree .level3 .size) (drop (tree .level3 .offset + tree .level3 .size) image)) (take (tree .level3 .size) (drop (tree .level3 .offset) image))))
+-- the part of the half that `second` names is the run of level 3's bytes, where they are all read in that copy
+run-bytes : (tree : Tree) (image : List ℕ) (half second : Bool) (x n : ℕ)
+    → tree .level3 .offset + 2 * tree .level3 .size ≤ length image → x + n ≤ tree .level3 .size → OneCopy tree image half second x (x + n)
+    → take n (drop x (cond second (take (tree .level3 .size) (drop (tree .level3 .offset + tree .level3 .size) image)) (take (tree .level3 .size) (drop (tree .level3 .offset) image))))
     ≡ bytes (content tree image half) x n
 unfolding content levelByte
-run-bytes tree image half bit x n inside ends e one =
+run-bytes tree image half second x n inside ends one =
     let l = tree .level3 in
-    let whole : List ℕ = cond bit (take (l .size) (drop (l .offset + l .size) image)) (take (l .size) (drop (l .offset) image)) in
-    let long : length whole ≡ l .size = half-length image l bit inside in
+    let whole : List ℕ = cond second (take (l .size) (drop (l .offset + l .size) image)) (take (l .size) (drop (l .offset) image)) in
+    let long : length whole ≡ l .size = half-length image l second inside in
     sym (bytes-is (content tree image half) x n (take n (drop x whole)) (length-part whole x n (omega arith))
-    (λ k h. ap (λ (c : Bool). getD image (place l c (x + k)) 0) (ap (select3 tree image half) (one k h) ∙ sym e)
-    ∙ sym (getD-part whole x n k h ∙ half-byte image l bit (x + k) (omega arith))))
+    (λ k h. ap (λ (c : Bool). getD image (place l c (x + k)) 0) (one (x + k) (omega arith) (omega arith))
+    ∙ sym (getD-part whole x n k h ∙ half-byte image l second (x + k) (omega arith))))
 
 -- the two halves as the code cuts them out of the image, and the run as it cuts it out of them
 module _ (image : List ℕ) (l : Level) where
@@ -104,11 +104,44 @@ unfolding first-half second-half
 halves-reach image l to h k =
     (simp (length-take, length-drop) (omega arith), simp (length-take, length-drop) (omega arith))
 
-pub run-is : (tree : Tree) (image : List ℕ) (half bit : Bool) (x end to : ℕ) → WellPlaced tree (length image) → x < end → end ≤ tree .level3 .size
-    → bit ≡ select3 tree image half (blockOf (tree .level3) x) → to ≡ x + runLength tree x end
-    → take (to - x) (drop x (cond bit (second-half image (tree .level3)) (first-half image (tree .level3)))) ≡ bytes (content tree image half) x (runLength tree x end)
+pub run-is : (tree : Tree) (image : List ℕ) (half second : Bool) (x end to : ℕ) (r : List ℕ) → WellPlaced tree (length image)
+    → x < to → to ≤ end → end ≤ tree .level3 .size → OneCopy tree image half second x to
+    → r ≡ take (to - x) (drop x (cond second (second-half image (tree .level3)) (first-half image (tree .level3))))
+    → (r ≡ bytes (content tree image half) x (length r)) × (0 < length r) × (length r ≤ end - x)
 unfolding first-half second-half
-run-is tree image half bit x end to w some fits e et =
-    let k : to - x ≡ runLength tree x end = omega arith in
-    rw (add-sub-cancel-left (tree .level3 .offset + tree .level3 .size), add-sub-cancel-left (tree .level3 .offset), k)
-    (run-bytes tree image half bit x (runLength tree x end) (w .inside3) (omega (arith, run-ends tree x end some)) e (run-block tree x end some))
+run-is tree image half second x end to r w some most fits one e =
+    let k : x + (to - x) ≡ to = omega arith in
+    let b : r ≡ bytes (content tree image half) x (to - x) =
+    e ∙ rw (add-sub-cancel-left (tree .level3 .offset + tree .level3 .size), add-sub-cancel-left (tree .level3 .offset))
+    (run-bytes tree image half second x (to - x) (w .inside3) (omega arith) (λ y f m. one y f (omega arith))) in
+    let n : length r ≡ to - x = ap length b ∙ length-bytes (content tree image half) x (to - x) in
+    (b ∙ ap (bytes (content tree image half) x) (sym n), omega arith, omega arith)
+
+-- ---- how far it goes
+
+-- x's block
+pub one-block : (tree : Tree) (image : List ℕ) (half second : Bool) (x end to : ℕ) → x < end → second ≡ select3 tree image half (blockOf (tree .level3) x)
+    → to ≡ x + runLength tree x end → (x < to) × (to ≤ end) × OneCopy tree image half second x to
+one-block tree image half second x end to h e t = (
+  omega (arith, run-some tree x end h),
+  omega (arith, run-ends tree x end h),
+  λ y f m.
+      let k : x + (y - x) ≡ y = omega arith in
+      ap (λ (z : ℕ). select3 tree image half (blockOf (tree .level3) z)) (sym k)
+      ∙ ap (select3 tree image half) (run-block tree x end h (y - x) (omega arith)) ∙ sym e,
+)
+
+pub no-other : (a b : Bool) → not (Bool·beq a b) ≡ false → b ≡ a
+no-other true true e = refl
+no-other true false e = absurd (true≢false e)
+no-other false true e = absurd (true≢false e)
+no-other false false e = refl
+
+-- and the next one
+pub two-pieces : (tree : Tree) (image : List ℕ) (half second : Bool) (x middle to : ℕ)
+    → OneCopy tree image half second x middle → OneCopy tree image half second middle to → OneCopy tree image half second x to
+two-pieces tree image half second x middle to a b y f m = go (decLt y middle)
+  where
+    go : Dec (y < middle) → select3 tree image half (blockOf (tree .level3) y) ≡ second
+    go (yes l) = a y f l
+    go (no l) = b y (omega arith) m

@@ -11,7 +11,7 @@ use Rattle.number.specs.Blocks.{blockSize, blocks, blockOf}
 use Rattle.dpfs.specs.declared.Tree.{Tree}
 use Rattle.dpfs.specs.declared.Space.{Space}
 use Rattle.dpfs.specs.Free.{Free}
-use Rattle.dpfs.specs.Tree.{place}
+use Rattle.dpfs.specs.Tree.{place, select3}
 
 -- the pairs of halves of two levels do not overlap
 abbrev pub Disjoint : Level → Level → Type 0
@@ -85,6 +85,11 @@ pub record BlockRules (space : Space) (image : List ℕ) (l : Level) (second : B
   pub exists : b < blocks l
   pub free : (y : ℕ) → y < l .size → blockOf l y ≡ b → Free space image (place l (not second) y)
 
--- how many bytes of level 3 from x on stand in one piece of the image, up to `end`
+-- how many bytes of level 3 from x on lie in x's block, up to `end`
 unfoldable pub runLength : Tree → (x end : ℕ) → ℕ
 runLength tree x end = min (end - x) (blockOf (tree .level3) x * blockSize (tree .level3) + blockSize (tree .level3) - x)
+
+-- the bytes of level 3 from x up to `end` stand in one piece of the image: their blocks are all read in the same copy
+abbrev pub OneCopy : Tree → List ℕ → (half second : Bool) → (x end : ℕ) → Type 0
+OneCopy tree image half second x end =
+    (y : ℕ) → x ≤ y → y < end → select3 tree image half (blockOf (tree .level3) y) ≡ second

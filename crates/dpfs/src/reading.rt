@@ -9,8 +9,9 @@ ghost use mathlib.Core.Bool.{cond};
 ghost use Prim.Native.Nat.{ℕ, _+_, _-_, _≤_, _<_};
 ghost use lib.ListN.{length, take, drop};
 ghost use Rattle.number.specs.Bytes.{bytes};
-ghost use Rattle.dpfs.specs.Tree.{content};
-ghost use Rattle.dpfs.specs.Rules.{WellPlaced, runLength};
+ghost use Rattle.number.specs.Blocks.{blockOf};
+ghost use Rattle.dpfs.specs.Tree.{select3, content};
+ghost use Rattle.dpfs.specs.Rules.{WellPlaced, OneCopy, runLength};
 
 // The live copy of a block is handed back as a part of whichever of two lent halves the bit names.
 pub fn live_part<'a>(
@@ -29,8 +30,8 @@ pub fn live_part<'a>(
     &first[from..to]
 }
 
-// Where the run of level 3 ends that starts at x and goes no further than end: with x's block, or before.
-pub fn run_end(tree: Tree, x: u64, end: u64) -> u64
+// Where the bytes of level 3 from x on end that lie in x's block, and come before end.
+pub fn block_end(tree: Tree, x: u64, end: u64) -> u64
     requires { ⌜ (x ≤ end) × (end ≤ tree .level3 .size) × (tree .level3 .log ≤ 16) × (tree .level3 .size ≤ 0x4000000) ⌝ }
     ensures { λ r. ⌜ r ≡ x + runLength tree x end ⌝ }
 {
@@ -38,17 +39,39 @@ pub fn run_end(tree: Tree, x: u64, end: u64) -> u64
     lesser(end, (block_of(l, x) + 1) * block_size(l))
 }
 
+// Where the bytes of level 3 from x on end that stand in one piece of the image, in the copy that `second` names, and come before end: with
+// the last block in a row whose live copy is that one.
+fn run_end(tree: Tree, image: &[u8], half: bool, second: bool, x: u64, end: u64) -> u64
+    requires { ⌜ (WellPlaced tree (length (now image))) × (x < end) × (end ≤ tree .level3 .size) × (second ≡ select3 tree (now image) half (blockOf (tree .level3) x)) ⌝ }
+    ensures { λ r. ⌜ (x < r) × (r ≤ end) × (OneCopy tree (now (image .entry)) half second x r) ⌝ }
+{
+    let mut to = block_end(tree, x, end);
+    while to < end {
+        if copy3(tree, image, half, block_of(tree.level3, to)) != second {
+            return to;
+        }
+        to = block_end(tree, to, end);
+    }
+    to
+}
+
 // The bytes of level 3 from x on, as far as they stand in one piece and no further than end.
 pub fn run(tree: Tree, image: &[u8], half: bool, x: u64, end: u64) -> &[u8]
     requires { ⌜ (WellPlaced tree (length (now image))) × (x < end) × (end ≤ tree .level3 .size) ⌝ }
-    ensures { λ r. ⌜ now r ≡ bytes (content tree (now (image .entry)) half) x (runLength tree x end) ⌝ }
+    ensures { λ r. ⌜ (now r ≡ bytes (content tree (now (image .entry)) half) x (length (now r))) × (0 < length (now r)) × (length (now r) ≤ end - x) ⌝ }
 {
     let l = tree.level3;
-    let bit = copy3(tree, image, half, block_of(l, x));
+    let second = copy3(tree, image, half, block_of(l, x));
     let from = x as usize;
-    let to = run_end(tree, x, end) as usize;
+    let to = run_end(tree, image, half, second, x, end) as usize;
     let start = l.offset as usize;
     let middle = start + l.size as usize;
     let stop = middle + l.size as usize;
-    live_part(&image[start..middle], &image[middle..stop], bit, from, to)
+    live_part(
+        &image[start..middle],
+        &image[middle..stop],
+        second,
+        from,
+        to,
+    )
 }

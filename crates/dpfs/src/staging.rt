@@ -7,7 +7,7 @@ use super::bits::byte_of_bit;
 use super::bits::copy2;
 use super::bits::copy3;
 use super::bits::place_of;
-use super::reading::run_end;
+use super::reading::block_end;
 use number::Level;
 use number::blocks::block_length;
 use number::blocks::block_of;
@@ -161,7 +161,7 @@ pub fn put_bytes(space: Space, tree: Tree, image: &mut [u8], x: u64, values: &[u
     let mut i = 0;
     while i < values.len() {
         let z = x + i as u64;
-        let next = (run_end(tree, z, end) - x) as usize;
+        let next = (block_end(tree, z, end) - x) as usize;
         put_run(space, tree, image, z, &values[i..next]);
         i = next;
     }

@@ -12,12 +12,10 @@ use lib.Seq.{sets, sets-eq, take-at}
 use Rattle.number.specs.declared.Level.{Level}
 use Rattle.number.specs.Blocks.{blockSize, blocks, blockLength}
 use Rattle.number.specs.Bytes.{bytes}
-use Rattle.number.proofs.ListLaws.{length-part, getD-part, length-bytes, bytes-is, bytes-cong, bytes-append}
+use Rattle.number.proofs.ListLaws.{length-part, getD-part, bytes-is, bytes-cong, bytes-append}
 use Rattle.number.proofs.BlockLaws.{size-pos, exists-byte}
 use Rattle.dpfs.specs.declared.Tree.{Tree}
 use Rattle.dpfs.specs.Tree as dpfs
-use Rattle.dpfs.specs.Rules.{runLength}
-use Rattle.dpfs.proofs.RunLaws.{run-some, run-ends}
 use Rattle.ivfc.specs.declared.View.{View}
 use Rattle.ivfc.specs.Views.{levelOf, innerByte, contentOf}
 use Rattle.ivfc.specs.Rules.{ViewRules}
@@ -145,20 +143,15 @@ run-image f image offset x end r same inside some e =
 
 -- a run of DPFS level 3, for a level that stands there from start on
 pub run-tree : (f : ℕ → ℕ) (tree : Tree) (image : List ℕ) (half : Bool) (start x end : ℕ) (r : List ℕ)
-    → ((y : ℕ) → f y ≡ dpfs.content tree image half (start + y)) → x < end
-    → r ≡ bytes (dpfs.content tree image half) (start + x) (runLength tree (start + x) (start + end))
+    → ((y : ℕ) → f y ≡ dpfs.content tree image half (start + y))
+    → (r ≡ bytes (dpfs.content tree image half) (start + x) (length r)) × (0 < length r) × (length r ≤ start + end - (start + x))
     → (r ≡ bytes f x (length r)) × (0 < length r) × (length r ≤ end - x)
-run-tree f tree image half start x end r same some e =
-    let m : ℕ = runLength tree (start + x) (start + end) in
-    let n : length r ≡ m = ap length e ∙ length-bytes (dpfs.content tree image half) (start + x) m in
-    let p : 0 < m = run-some tree (start + x) (start + end) (omega arith) in
-    let q : start + x + m ≤ start + end = run-ends tree (start + x) (start + end) (omega arith) in (
-      e ∙ ap (bytes (dpfs.content tree image half) (start + x)) (sym n)
-          ∙ bytes-cong (dpfs.content tree image half) f (start + x) x (length r)
-          (λ k h. ap (dpfs.content tree image half) (add-assoc start x k) ∙ sym (same (x + k))),
-      omega arith,
-      omega arith,
-    )
+run-tree f tree image half start x end r same (e, some, most) = (
+  e ∙ bytes-cong (dpfs.content tree image half) f (start + x) x (length r)
+      (λ k h. ap (dpfs.content tree image half) (add-assoc start x k) ∙ sym (same (x + k))),
+  some,
+  omega arith,
+)
 
 -- one turn of a loop that fills a buffer run by run
 pub gather-turn : (f : ℕ → ℕ) (x done : ℕ) (before after r : List ℕ) → take done before ≡ bytes f x done → done + length r ≤ length before

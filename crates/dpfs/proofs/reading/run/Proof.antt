@@ -1,12 +1,10 @@
 -- The part of the half that the bit names has the bytes of level 3. Assumes nothing.
-use mathlib.Core.Path.{_≡_, ap, _∙_}
-use Prim.Native.Nat.{_+_}
+use mathlib.Core.Path.{ap, _∙_}
 use native.Mathlib.Omega.{arith}
 use lib.ListN.{length}
 use Rattle.dpfs.specs.Tree.{select3}
-use Rattle.dpfs.specs.Rules.{runLength}
 use Rattle.dpfs.proofs.LevelLaws.{held2}
-use Rattle.dpfs.proofs.RunLaws.{run-ends, run-is, halves-reach, first-half, second-half}
+use Rattle.dpfs.proofs.RunLaws.{run-is, halves-reach, first-half, second-half}
 use borrow.Author.Needs.{needs}
 use Rattle.dpfs.proofs.reading.run.Statement.{statement}
 use Rattle.dpfs.proofs.reading.run.Tie as tie
@@ -20,7 +18,9 @@ copy3-requires c κs =
     (s .pre .0, rw (c .block-of .ensures) (held2 (s .args .tree) (length (s .args .image .now)) (s .pre .0) (s .args .x) (omega arith)))
 
 run-end-requires : tie.Need-run-end-requires
-run-end-requires c κs = search needs
+run-end-requires c κs =
+    let s = c .before .before .before .before in
+    (s .pre .0, omega arith, s .pre .2, c .copy3 .ensures ∙ ap (select3 (s .args .tree) (s .args .image .now) (s .args .half)) (c .before .block-of .ensures))
 
 add-middle : tie.Need-add-middle
 add-middle c = search needs
@@ -50,19 +50,16 @@ live-part-requires : tie.Need-live-part-requires
 unfolding first-half second-half
 live-part-requires c κs =
     let s = c .before .before .before .before .before .before .before in
-    let e : c .before .before .run-end .result ≡ s .args .x + runLength (s .args .tree) (s .args .x) (s .args .end) = c .before .before .run-end .ensures in
-    let r = halves-reach (s .args .image .now) (s .args .tree .level3) (c .before .before .run-end .result) (s .pre .0 .inside3)
-    (omega (arith, run-ends (s .args .tree) (s .args .x) (s .args .end) (s .pre .1))) in
-    (omega arith, r .0, r .1)
+    let e = c .before .before .run-end .ensures in
+    let r = halves-reach (s .args .image .now) (s .args .tree .level3) (c .before .before .run-end .result) (s .pre .0 .inside3) (omega (arith, e .1, s .pre .2)) in
+    (omega (arith, e .0), r .0, r .1)
 
 returns : tie.Need-returns
 unfolding first-half second-half
 returns c =
     let s = c .before .before .before .before .before .before .before .before in
-    c .live-part .ensures
-    ∙ run-is (s .args .tree) (s .args .image .now) (s .args .half) _ (s .args .x) (s .args .end) _ (s .pre .0) (s .pre .1) (s .pre .2)
-    (c .before .before .before .before .copy3 .ensures ∙ ap (select3 (s .args .tree) (s .args .image .now) (s .args .half)) (c .before .before .before .before .before .block-of .ensures))
-    (c .before .before .before .run-end .ensures)
+    let e = c .before .before .before .run-end .ensures in
+    run-is (s .args .tree) (s .args .image .now) (s .args .half) _ (s .args .x) (s .args .end) _ _ (s .pre .0) (e .0) (e .1) (s .pre .2) (e .2) (c .live-part .ensures)
 
 pub run-spec : {M : Type 1} → statement M
 run-spec =

@@ -33,8 +33,8 @@ add-z c =
     let w = among-placed (s .args .space) (length (s .args .image .now)) (s .pre .0) (s .args .tree) (s .pre .1) in
     omega (arith, s .pre .2, w .inside3, w .limit, c .loop-test .taken)
 
-run-end-requires : tie.Need-run-end-requires Inv-loop μ-loop
-run-end-requires c κs =
+block-end-requires : tie.Need-block-end-requires Inv-loop μ-loop
+block-end-requires c κs =
     let s = c .before .before .before .before in
     let w = among-placed (s .args .space) (length (s .args .image .now)) (s .pre .0) (s .args .tree) (s .pre .1) in
     (omega (arith, c .loop-test .taken), s .pre .2, w .log3 .1, omega (arith, w .inside3, w .limit))
@@ -43,47 +43,47 @@ sub-next : tie.Need-sub-next Inv-loop μ-loop
 sub-next c =
     let s = c .before .before .before .before .before in
     let a = s .args in
-    next-run (a .tree) (a .x) (c .before .before .loop .i) (a .values .now) (c .run-end .result) (c .before .loop-test .taken) (s .pre .2) (c .run-end .ensures) .0
+    next-run (a .tree) (a .x) (c .before .before .loop .i) (a .values .now) (c .block-end .result) (c .before .loop-test .taken) (s .pre .2) (c .block-end .ensures) .0
 
 sub-put-run : tie.Need-sub-put-run Inv-loop μ-loop
 sub-put-run c =
     let s = c .before .before .before .before .before .before in
     let a = s .args in
-    omega (arith, next-run (a .tree) (a .x) (c .before .before .before .loop .i) (a .values .now) (c .before .run-end .result) (c .before .before .loop-test .taken) (s .pre .2) (c .before .run-end .ensures) .1)
+    omega (arith, next-run (a .tree) (a .x) (c .before .before .before .loop .i) (a .values .now) (c .before .block-end .result) (c .before .before .loop-test .taken) (s .pre .2) (c .before .block-end .ensures) .1)
 
 part-put-run-start : tie.Need-part-put-run-start Inv-loop μ-loop
 part-put-run-start c =
     let s = c .before .before .before .before .before .before in
     let a = s .args in
-    omega (arith, next-run (a .tree) (a .x) (c .before .before .before .loop .i) (a .values .now) (c .before .run-end .result) (c .before .before .loop-test .taken) (s .pre .2) (c .before .run-end .ensures) .1)
+    omega (arith, next-run (a .tree) (a .x) (c .before .before .before .loop .i) (a .values .now) (c .before .block-end .result) (c .before .before .loop-test .taken) (s .pre .2) (c .before .block-end .ensures) .1)
 
 part-put-run-end : tie.Need-part-put-run-end Inv-loop μ-loop
 part-put-run-end c =
     let s = c .before .before .before .before .before .before in
     let a = s .args in
-    omega (arith, next-run (a .tree) (a .x) (c .before .before .before .loop .i) (a .values .now) (c .before .run-end .result) (c .before .before .loop-test .taken) (s .pre .2) (c .before .run-end .ensures) .2)
+    omega (arith, next-run (a .tree) (a .x) (c .before .before .before .loop .i) (a .values .now) (c .before .block-end .result) (c .before .before .loop-test .taken) (s .pre .2) (c .before .block-end .ensures) .2)
 
 put-run-requires : tie.Need-put-run-requires Inv-loop μ-loop
 put-run-requires c κs =
     let s = c .before .before .before .before .before .before .before in
     let a = s .args in
-    let p = run-part (a .tree) (a .x) (c .before .before .before .before .loop .i) (a .values .now) (c .before .before .run-end .result) (c .before .before .before .loop-test .taken) (s .pre .2) (c .before .before .run-end .ensures) in
+    let p = run-part (a .tree) (a .x) (c .before .before .before .before .loop .i) (a .values .now) (c .before .before .block-end .result) (c .before .before .before .loop-test .taken) (s .pre .2) (c .before .before .block-end .ensures) in
     (subst (SpaceRules (a .space)) (sym (c .before .before .before .before .loop .inv .1)) (s .pre .0), s .pre .1, p .0, p .1)
 
 loop-less : tie.Need-loop-less Inv-loop μ-loop
 loop-less c =
     let s = c .before .before .before .before .before .before .before .before .before .before in
     let a = s .args in
-    omega (arith, c .before .before .before .before .before .before .loop-test .taken, next-run (a .tree) (a .x) (c .before .before .before .before .before .before .before .loop .i) (a .values .now) (c .before .before .before .before .before .run-end .result) (c .before .before .before .before .before .before .loop-test .taken) (s .pre .2) (c .before .before .before .before .before .run-end .ensures) .1)
+    omega (arith, c .before .before .before .before .before .before .loop-test .taken, next-run (a .tree) (a .x) (c .before .before .before .before .before .before .before .loop .i) (a .values .now) (c .before .before .before .before .before .block-end .result) (c .before .before .before .before .before .before .loop-test .taken) (s .pre .2) (c .before .before .before .before .before .block-end .ensures) .1)
 
 loop-again : tie.Need-loop-again Inv-loop μ-loop
 loop-again c =
     let s = c .before .before .before .before .before .before .before .before .before .before in
     let a = s .args in
-    let n = next-run (a .tree) (a .x) (c .before .before .before .before .before .before .before .loop .i) (a .values .now) (c .before .before .before .before .before .run-end .result) (c .before .before .before .before .before .before .loop-test .taken) (s .pre .2) (c .before .before .before .before .before .run-end .ensures) in (
+    let n = next-run (a .tree) (a .x) (c .before .before .before .before .before .before .before .loop .i) (a .values .now) (c .before .before .before .before .before .block-end .result) (c .before .before .before .before .before .before .loop-test .taken) (s .pre .2) (c .before .before .before .before .before .block-end .ensures) in (
       n .2,
       c .before .before .put-run .kept .1 .1 .0 ∙ c .before .before .before .before .before .before .before .loop .inv .1,
-      put-turn (a .tree) (a .x) (c .before .before .before .before .before .before .before .loop .i) (c .before .before .before .before .before .run-end .result - a .x) (a .values .now) (c .before .before .before .before .before .before .before .loop .image) _ _ (omega (arith, n .1)) (n .2) (c .before .before .put-run .ensures) (c .before .before .before .before .before .before .before .loop .inv .2),
+      put-turn (a .tree) (a .x) (c .before .before .before .before .before .before .before .loop .i) (c .before .before .before .before .before .block-end .result - a .x) (a .values .now) (c .before .before .before .before .before .before .before .loop .image) _ _ (omega (arith, n .1)) (n .2) (c .before .before .put-run .ensures) (c .before .before .before .before .before .before .before .loop .inv .2),
     )
 
 same-length : tie.Need-same-length Inv-loop μ-loop
@@ -103,7 +103,7 @@ put-bytes-spec =
     add-end
     loop-holds
     add-z
-    run-end-requires
+    block-end-requires
     sub-next
     sub-put-run
     part-put-run-start

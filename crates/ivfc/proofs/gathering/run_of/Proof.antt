@@ -94,7 +94,7 @@ returns-3 c =
     let v = s .args .view in
     run-tree (contentOf v (s .args .image .now) (s .args .i)) (v .tree) (s .args .image .now) (v .half) (c .before .level-of .result .offset) (s .args .x) (s .args .end) _
     (rw (c .before .level-of .ensures) (content-inner v (s .args .image .now) (s .args .i) (omega arith) (s .pre .1) (inner-test (s .args .i) (v .external) (c .before .before .if2 .left))))
-    (s .pre .2) (c .run .ensures)
+    (c .run .ensures)
 
 pub run-of-spec : {M : Type 1} → statement M
 run-of-spec =
