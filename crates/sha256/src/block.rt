@@ -56,13 +56,13 @@ pub struct Turn {
     pub words: Words,
 }
 
-fn temp1(e: u32, f: u32, g: u32, h: u32, k: u32, w: u32) -> u32
+pub fn temp1(e: u32, f: u32, g: u32, h: u32, k: u32, w: u32) -> u32
     ensures { λ r. ⌜ r ≡ Spec.T₁ e f g h k w ⌝ }
 {
     add(add(add(add(h, sum1(e)), ch(e, f, g)), k), w)
 }
 
-fn temp2(a: u32, b: u32, c: u32) -> u32
+pub fn temp2(a: u32, b: u32, c: u32) -> u32
     ensures { λ r. ⌜ r ≡ Spec.T₂ a b c ⌝ }
 {
     add(sum0(a), maj(a, b, c))
@@ -87,7 +87,7 @@ fn round(v: Vars, k: u32, w: u32) -> Vars
 }
 
 // A word of the schedule from those 2, 7, 15 and 16 before it. The sum starts with the oldest: that order is the fastest.
-fn next_word(two: u32, seven: u32, fifteen: u32, sixteen: u32) -> u32
+pub fn next_word(two: u32, seven: u32, fifteen: u32, sixteen: u32) -> u32
     ensures { λ r. ⌜ r ≡ _⊞_ (_⊞_ (_⊞_ (σ₁ two) seven) (σ₀ fifteen)) sixteen ⌝ }
 {
     add(add(add(sixteen, sigma0(fifteen)), seven), sigma1(two))
