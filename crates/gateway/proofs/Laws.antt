@@ -1,23 +1,19 @@
 -- Runs stored one after the other, and a truth value as a number.
-use Prim.Native.Nat.{ℕ, suc, _+_, _≤_}
+use Prim.Native.Nat.{ℕ, _+_, _≤_}
 use mathlib.Core.Path.{_≡_, refl, ap, sym, _∙_}
-use mathlib.Core.List.{List, [], _∷_, _++_, append-nil}
+use mathlib.Core.List.{List, _++_, append-nil}
 use native.Mathlib.Omega.{arith}
-use lib.ListN.{length, drop, set, drop-of-length-le, length-append}
+use lib.ListN.{length, drop, drop-of-length-le, length-append}
 use lib.Seq.{sets, sets-eq}
 use mathlib.Core.Bool.{Bool, true, false, cond}
 use mir.Val.{boolByte}
+use Rattle.number.proofs.ListLaws.{sets-append}
 
 -- a run as long as the list takes its place
 pub sets-whole : (s l : List ℕ) → length l ≡ length s → sets s 0 l ≡ l
 sets-whole s l h =
     let k : length s ≤ 0 + length l = omega arith in
     sets-eq l s 0 (omega arith) ∙ rw (drop-of-length-le s k) (append-nil l)
-
--- a run behind a run is stored as one
-pub sets-append : (s : List ℕ) (x y : ℕ) (l m : List ℕ) → y ≡ x + length l → sets (sets s x l) y m ≡ sets s x (l ++ m)
-sets-append s x y [] m e = let d : y ≡ x = omega arith in rw d
-sets-append s x y (v ∷ l) m e = sets-append (set s x v) (suc x) y l m (omega arith)
 
 -- two runs that fill a list
 pub sets-two : (s : List ℕ) (y : ℕ) (a b : List ℕ) → y ≡ length a → y + length b ≡ length s → sets (sets s 0 a) y b ≡ a ++ b

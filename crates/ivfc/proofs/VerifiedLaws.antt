@@ -1,23 +1,20 @@
 -- When a block is verified: as the code asks it, and of contents that agree. Assumes nothing.
-use mathlib.Core.Path.{_≡_, refl, sym, ap, subst⁻¹, _∙_}
+use mathlib.Core.Path.{_≡_, refl, sym, ap, _∙_}
 use mathlib.Core.List.{List}
 use mathlib.Core.Bool.{Bool, true, false, _&&_, and-true}
 use Prim.Native.Nat.{ℕ, zero, suc, _+_, _-_, _*_, _≤_, _<_}
 use native.Mathlib.Omega.{arith}
-use lib.Dec.{eqb}
-use borrow.Author.Tests.{eqb-true}
 use Rattle.number.specs.declared.Level.{Level}
 use Rattle.number.specs.Blocks.{blockSize, blocks, blockLength}
-use Rattle.number.proofs.Tests.{and-left, and-right, right-fails}
+use Rattle.number.proofs.Tests.{right-fails}
 use Rattle.number.proofs.BlockLaws.{exists-byte, block-inside}
 use Rattle.sha256.specs.Sha256.{sha256}
 use Rattle.ivfc.specs.declared.View.{View}
-use Rattle.ivfc.specs.declared.Seen.{Seen}
 use Rattle.ivfc.specs.Blocks.{block, entry, parent}
 use Rattle.ivfc.specs.Verified.{vouches, matches, verified}
 use Rattle.ivfc.specs.Views as view
 use Rattle.ivfc.specs.Views.{levelOf, contentOf}
-use Rattle.ivfc.specs.Rules.{TreeRules, ViewRules, Recalls}
+use Rattle.ivfc.specs.Rules.{TreeRules, ViewRules}
 use Rattle.ivfc.proofs.EntryLaws.{parent-exists, block-cong, entry-cong}
 
 -- ---- the levels of a hash tree
@@ -72,10 +69,6 @@ module _ (levels : ℕ → Level) (content : ℕ → ℕ → ℕ) where
       let e : suc i - 1 ≡ i = omega arith in
       rw e refl
 
-  pub verified-none : (i b : ℕ) → i ≡ 0 → true ≡ verified levels content i b
-  unfolding verified
-  verified-none i b e = rw e refl
-
   pub verified-step : (i b : ℕ) → 1 ≤ i
       → verified levels content i b ≡ (matches levels content i b && verified levels content (i - 1) (parent (levels (i - 1)) b))
   unfolding verified
@@ -104,16 +97,3 @@ module _ (levels : ℕ → Level) (rules : TreeRules levels) where
 
   pub parent-above : (i b : ℕ) → 1 ≤ i → i ≤ 4 → b < blocks (levels i) → parent (levels (i - 1)) b < blocks (levels (i - 1))
   parent-above i b h k l = parent-exists (levels (i - 1)) b (omega (arith, entry-above i b h k l))
-
--- ---- what is remembered
-
-module _ (v : View) (s : List ℕ) where
-  pub recalls-at : (j i : ℕ) (seen : Seen) → i ≡ j → Recalls v s j seen → Recalls v s i seen
-  recalls-at j i seen e h = subst⁻¹ (λ (k : ℕ). Recalls v s k seen) e h
-
-  pub recalled : (i b : ℕ) (seen : Seen) → Recalls v s i seen → seen .known && eqb (seen .block) b ≡ true
-      → seen .verified ≡ view.verified v s i b
-  recalled i b seen h e =
-      let k : seen .known ≡ true = and-left (seen .known) (eqb (seen .block) b) e in
-      let q : seen .block ≡ b = eqb-true (seen .block) b (and-right (seen .known) (eqb (seen .block) b) e) in
-      sym (h k) ∙ ap (view.verified v s i) q

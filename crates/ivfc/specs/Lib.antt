@@ -1,4 +1,5 @@
 pub mod Blocks
 pub mod Verified
+pub mod Rows
 pub mod Views
 pub mod Rules

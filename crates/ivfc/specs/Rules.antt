@@ -1,15 +1,16 @@
 -- What the functions of this crate ask of a view; that of an image that opens keeps to it.
 use mathlib.Core.Path.{_≡_}
 use mathlib.Core.List.{List}
-use mathlib.Core.Bool.{Bool, true, false}
-use Prim.Native.Nat.{ℕ, zero, suc, _+_, _*_, _≤_, _<_}
-use lib.ListN.{length}
+use mathlib.Core.Bool.{true, false}
+use Prim.Native.Nat.{ℕ, zero, suc, _+_, _-_, _*_, _≤_, _<_}
 use Rattle.number.specs.declared.Level.{Level}
 use Rattle.number.specs.Blocks.{blocks}
 use Rattle.dpfs.specs.Rules.{WellPlaced}
 use Rattle.ivfc.specs.declared.View.{View}
 use Rattle.ivfc.specs.declared.Seen.{Seen}
 use Rattle.ivfc.specs.declared.Memory.{Memory}
+use Rattle.ivfc.specs.Blocks.{parent}
+use Rattle.ivfc.specs.Verified.{firstNot}
 use Rattle.ivfc.specs.Views.{levelOf, verified}
 
 -- 01's rules on a hash tree: logarithms, enough entries
@@ -28,11 +29,23 @@ pub record ViewRules (view : View) (n : ℕ) : Type 0 where
   pub outer4 : view .external ≡ true → view .outside + view .level4 .size ≤ n
   pub master : view .master .offset + view .master .size ≤ n
 
--- what is remembered of a level's block, if anything is, is so
-abbrev pub Recalls : View → List ℕ → (i : ℕ) → Seen → Type 0
-Recalls view image i seen = seen .known ≡ true → verified view image i (seen .block) ≡ seen .verified
+-- the first of the blocks first to last of level i that is not verified, else last + 1
+abbrev pub firstUnverified : View → List ℕ → (i first last : ℕ) → ℕ
+firstUnverified view image i first last = firstNot (verified view image i) first (suc last - first)
 
-pub record Remembers (view : View) (image : List ℕ) (memory : Memory) : Type 0 where
-  pub level1 : Recalls view image 1 (memory .level1)
-  pub level2 : Recalls view image 2 (memory .level2)
-  pub level3 : Recalls view image 3 (memory .level3)
+-- what is remembered of level i, if anything is: where its verified blocks from `first` on end, of those up to `last`
+abbrev pub Recalls : View → List ℕ → (i last : ℕ) → Seen → Type 0
+Recalls view image i last seen = seen .known ≡ true → seen .end ≡ firstUnverified view image i (seen .first) last
+
+-- what is remembered of level i + 1
+abbrev pub seenOf : Memory → (i : ℕ) → Seen
+seenOf memory zero = memory .level1
+seenOf memory (suc zero) = memory .level2
+seenOf memory (suc (suc zero)) = memory .level3
+seenOf memory (suc (suc (suc i))) = memory .level4
+
+-- what is remembered of the levels 1 to i, where `last` is the last block of level i that is asked for, and its parent that of the level above
+unfoldable pub Remembers : View → List ℕ → (i last : ℕ) → Memory → Type 0
+Remembers view image zero last memory = Unit {0}
+Remembers view image (suc i) last memory =
+    Recalls view image (suc i) last (seenOf memory i) × Remembers view image i (parent (levelOf view i) last) memory

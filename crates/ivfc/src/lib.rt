@@ -3,7 +3,12 @@ use dpfs::Tree;
 use number::Level;
 use number::Range;
 
+// The size of an entry, which is a digest.
+pub const ENTRY: u64 = 32;
+
 pub mod gathering;
+pub mod hashing;
+pub mod matching;
 pub mod verifying;
 
 // A view of a partition. `tree` is its DPFS, `half` the half of DPFS level 1 that the view goes by, `master` where its master hash stands
@@ -20,22 +25,36 @@ pub struct View {
     pub outside: u64,
 }
 
-// What is remembered of a level's hash block that was judged: its number, and whether it is verified.
-pub struct Seen {
-    pub known: bool,
-    pub block: u64,
-    pub verified: bool,
+// The digests of blocks in a row: so many of 32 bytes each, at the front of `bytes`.
+pub struct Digests {
+    pub count: u64,
+    pub bytes: [u8; 256],
 }
 
-// The last hash block that was judged of each level, so that it is not hashed again for the next block below it.
+// How blocks in a row compare with their entries: how many were hashed, how many match before the first that does not, and how many match.
+pub struct Compared {
+    pub hashed: u64,
+    pub before: u64,
+    pub matching: u64,
+}
+
+// What is remembered of a level: its blocks from `first` on are verified up to `end`, which is not, or is past the last that is asked for.
+pub struct Seen {
+    pub known: bool,
+    pub first: u64,
+    pub end: u64,
+}
+
+// What is remembered of each level, so that no hash block is hashed again for the next blocks below it.
 pub struct Memory {
     pub level1: Seen,
     pub level2: Seen,
     pub level3: Seen,
+    pub level4: Seen,
 }
 
-// Whether a block is verified, with what was learnt on the way.
+// Where the verified blocks end, with what was learnt on the way.
 pub struct Judged {
-    pub verified: bool,
+    pub end: u64,
     pub memory: Memory,
 }

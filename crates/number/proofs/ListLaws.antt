@@ -118,6 +118,11 @@ sets-out s x (v ∷ vs) y o =
     other (inl h) e = omega arith
     other (inr h) e = omega arith
 
+-- a run behind a run is stored as one
+pub sets-append : (s : List ℕ) (x y : ℕ) (l m : List ℕ) → y ≡ x + length l → sets (sets s x l) y m ≡ sets s x (l ++ m)
+sets-append s x y [] m e = let d : y ≡ x = omega arith in rw d
+sets-append s x y (v ∷ l) m e = sets-append (set s x v) (suc x) y l m (omega arith)
+
 pub sets-in : (s : List ℕ) (x : ℕ) (l : List ℕ) (m : ℕ) → x + length l ≤ length s → m < length l → getD (sets s x l) (x + m) 0 ≡ getD l m 0
 sets-in s x [] m h k = absurd (omega arith)
 sets-in s x (v ∷ vs) zero h k =

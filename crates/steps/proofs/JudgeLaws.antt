@@ -2,10 +2,8 @@
 use mathlib.Core.Path.{_≡_, refl, sym, ap, _∙_, subst}
 use mathlib.Core.List.{List}
 use mathlib.Core.Bool.{Bool, true, false, _&&_, _||_, cond}
-use Prim.Native.Nat.{ℕ, zero, suc, _+_, _-_, _*_, _/_, _≤_, _<_, max}
+use Prim.Native.Nat.{ℕ, zero, suc, _+_, _-_, _*_, _≤_, _<_, min, max}
 use native.Mathlib.Omega.{arith}
-use native.Mathlib.Nat.{mul-le-mul-right}
-use native.Mathlib.Numerals.{add-one}
 use lib.ListN.{length}
 use lib.Dec.{leb}
 use borrow.Author.Tests.{leb-true}
@@ -20,10 +18,11 @@ use Rattle.ivfc.specs.Verified.{firstNot}
 use Rattle.ivfc.specs.Verified as tree
 use Rattle.ivfc.specs.Views.{levelOf, contentOf, matches, verified}
 use Rattle.ivfc.specs.Rules.{ViewRules}
-use Rattle.ivfc.proofs.EntryLaws.{entry-starts, parent-mono, parent-exists}
-use Rattle.ivfc.proofs.LowestLaws.{Lowest, first-lowest, lowest-one, lowest-past}
+use Rattle.ivfc.proofs.ViewLaws.{block-small}
+use Rattle.ivfc.proofs.EntryLaws.{parent-mono, parent-exists}
+use Rattle.ivfc.proofs.LowestLaws.{Lowest, first-lowest, lowest-past}
 use Rattle.update.specs.Covering.{covered}
-use Rattle.update.proofs.JudgeLaws.{above-some, above-none, partly-lowest}
+use Rattle.update.proofs.JudgeLaws.{above-lowest, partly-lowest}
 use Rattle.steps.specs.declared.Outcome.{Outcome}
 use Rattle.steps.specs.declared.Outcome.the-variants as outcome
 use Rattle.steps.specs.Reading.{refuseLowest, refuseOutside}
@@ -50,6 +49,10 @@ module _ (view : View) (n : ℕ) (rules : ViewRules view n) where
   pub log3-small : view .level3 .log < 64
   unfolding levelOf
   log3-small = omega (arith, rules .hash .logs 3 (omega arith))
+
+  pub log3-most : view .level3 .log ≤ 16
+  unfolding levelOf
+  log3-most = rules .hash .logs 3 (omega arith) .1
 
   pub log4-most : view .level4 .log ≤ 16
   unfolding levelOf
@@ -80,30 +83,24 @@ end-matches view image place n b r e m = rw e m
 
 -- ---- refusal 11
 
-module _ (view : View) (image : List ℕ) (rules : ViewRules view (length image)) (first last : ℕ) (ordered : first ≤ last) (bad : ℕ)
-    (found : bad ≡ firstNot (verified view image 3) (parent (view .level3) first) (suc (parent (view .level3) last) - parent (view .level3) first)) where
-  pub none-above : (end : ℕ) → end ≡ parent (view .level3) last → end < bad → last + 1 ≡ firstNot (aboveVerified view image) first (suc last - first)
-  unfolding aboveVerified levelOf
-  none-above end e h =
-      add-one last
-      ∙ lowest-one (λ (b : ℕ). verified view image 3 (parent (view .level3) b)) first last (suc last) _
-      (record {
-        from = omega arith;
-        to = omega arith;
-        before = λ b f k. above-none view image (rules .hash) first last ordered (omega arith) b f (omega arith);
-        here = λ k. absurd (omega arith);
-      })
-      (first-lowest (λ (b : ℕ). verified view image 3 (parent (view .level3) b)) first last ordered)
+-- it is found among the hash blocks above, and not below them
+pub unvouched-is : (view : View) (image : List ℕ) → ViewRules view (length image) → (first last bad r : ℕ) → first ≤ last
+    → bad ≡ firstNot (verified view image 3) (parent (view .level3) first) (suc (parent (view .level3) last) - parent (view .level3) first)
+    → r ≡ min (suc last) (max first (child (view .level3) bad)) → r ≡ firstNot (aboveVerified view image) first (suc last - first)
+unfolding aboveVerified levelOf
+unvouched-is view image rules first last bad r ordered found e =
+    e ∙ ap (λ (p : ℕ). min (suc last) (max first (child (view .level3) p))) found ∙ sym (above-lowest view image (rules .hash) first last ordered)
 
-  pub some-above : (end unit r : ℕ) → end ≡ parent (view .level3) last → bad ≤ end → unit ≡ blockSize (view .level3) → r ≡ max first (bad * unit / 32)
-      → r ≡ firstNot (aboveVerified view image) first (suc last - first)
-  unfolding aboveVerified levelOf child
-  some-above end unit r e h u f =
-      f ∙ rw (u, found) (sym (above-some view image (rules .hash) first last ordered (omega (arith, found)) .0))
-
-  pub above-small : (end unit : ℕ) → end ≡ parent (view .level3) last → bad ≤ end → unit ≡ blockSize (view .level3) → bad * unit ≤ 32 * last
-  above-small end unit e h u =
-      omega (arith, rw (← u) at (entry-starts (view .level3) last), mul-le-mul-right unit (rw e at h))
+-- the lowest of some hash blocks that is not verified is one of them, or the next
+pub bad-small : (view : View) (image : List ℕ) → ViewRules view (length image) → (first last bad : ℕ) → first ≤ last → last < blocks (view .level4)
+    → bad ≡ firstNot (verified view image 3) (parent (view .level3) first) (suc (parent (view .level3) last) - parent (view .level3) first)
+    → bad ≤ 0x4000000
+unfolding levelOf
+bad-small view image rules first last bad ordered there found =
+    let l : Lowest (verified view image 3) (parent (view .level3) first) (parent (view .level3) last) bad =
+    subst (Lowest (verified view image 3) (parent (view .level3) first) (parent (view .level3) last)) (sym found)
+    (first-lowest (verified view image 3) (parent (view .level3) first) (parent (view .level3) last) (parent-mono (view .level3) first last ordered)) in
+    omega (arith, l .to, block-small view (length image) rules 3 (parent (view .level3) last) (omega arith) (hash-block-exists view (length image) rules last there))
 
 -- ---- refusal 10
 

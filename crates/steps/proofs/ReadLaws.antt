@@ -2,7 +2,7 @@
 use Prim.Native.Nat.{ℕ, zero, suc, _+_, _-_, _≤_, _<_}
 use mathlib.Core.Bool.{Bool, true, false}
 use mathlib.Core.List.{List}
-use mathlib.Core.Path.{_≡_, refl, sym, ap, _∙_}
+use mathlib.Core.Path.{_≡_, refl, sym, ap, subst, _∙_}
 use native.Mathlib.Omega.{arith}
 use lib.Dec.{leb}
 use lib.ListN.{length}
@@ -18,6 +18,7 @@ use Rattle.ivfc.specs.declared.View.{View}
 use Rattle.ivfc.specs.Views.{levelOf, contentOf, verified}
 use Rattle.ivfc.specs.Verified.{firstNot}
 use Rattle.ivfc.specs.Rules.{ViewRules}
+use Rattle.ivfc.proofs.LowestLaws.{Lowest, first-lowest}
 use Rattle.steps.specs.declared.Outcome.{Outcome}
 use Rattle.steps.specs.declared.Outcome.the-variants as outcome
 use Rattle.steps.specs.declared.Verdict.the-variants as verdict
@@ -175,6 +176,19 @@ module _ (view : View) (image : List ℕ) (b count : ℕ) (n : count ≡ blocks 
   unfolding levelOf
   block-there h = omega arith
 
-  pub block-said : b < count → (t : Bool) → verified view image 4 b ≡ t → said t ≡ verdictOn view image b
+  block-said : b < count → (t : Bool) → verified view image 4 b ≡ t → said t ≡ verdictOn view image b
   unfolding verdictOn
   block-said h t e = rw (lt-ltb b (blocks (view .level4)) (omega arith), e)
+
+  -- of one block, the first that is not verified is this one or the next
+  module _ (h : b < count) (r : ℕ) (found : r ≡ firstNot (verified view image 4) b (suc b - b)) where
+    lowest : Lowest (verified view image 4) b b r
+    lowest = subst (Lowest (verified view image 4) b b) (sym found) (first-lowest (verified view image 4) b b (omega arith))
+
+    pub block-good : b < r → verdict.Verified ≡ verdictOn view image b
+    block-good l = block-said h true (lowest .before b (omega arith) l)
+
+    pub block-bad : r ≤ b → verdict.Unproven ≡ verdictOn view image b
+    block-bad l =
+        let e : r ≡ b = omega (arith, lowest .from) in
+        block-said h false (ap (verified view image 4) (sym e) ∙ lowest .here l)

@@ -2,7 +2,8 @@
 // write's ends.
 use super::Outcome;
 use ivfc::View;
-use ivfc::verifying::block_matches;
+use ivfc::matching::block_matches;
+use ivfc::verifying::first_under;
 use ivfc::verifying::first_unverified;
 use ivfc::verifying::parent_of;
 use layout::Refusal;
@@ -10,7 +11,6 @@ use number::Level;
 use number::blocks::block_length;
 use number::blocks::block_of;
 use number::blocks::block_size;
-use number::blocks::greater;
 use number::ranges::lies_inside;
 ghost use mathlib.Core.Path.{_≡_};
 ghost use mathlib.Core.Bool.{_||_};
@@ -30,12 +30,14 @@ fn first_unvouched(view: View, image: &[u8], first: u64, last: u64) -> u64
     ensures { λ r. ⌜ r ≡ firstNot (aboveVerified view (now (image .entry))) first (suc last - first) ⌝ }
 {
     let hash = view.level3;
-    let end = parent_of(hash, last);
-    let bad = first_unverified(view, image, 3, parent_of(hash, first), end);
-    if end < bad {
-        return last + 1;
-    }
-    greater(first, bad * block_size(hash) / 32)
+    let bad = first_unverified(
+        view,
+        image,
+        3,
+        parent_of(hash, first),
+        parent_of(hash, last),
+    );
+    first_under(hash, first, last, bad)
 }
 
 // A block of level 4 is covered in full if all its bytes below the level's size are written.

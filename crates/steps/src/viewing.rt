@@ -4,8 +4,6 @@ use super::Verdict;
 use ivfc::View;
 use ivfc::gathering::gather;
 use ivfc::verifying::first_unverified;
-use ivfc::verifying::judge;
-use ivfc::verifying::nothing_seen;
 use layout::Refusal;
 use number::blocks::block_count;
 use number::blocks::block_of;
@@ -56,8 +54,7 @@ pub fn judge_block(view: View, image: &[u8], block: u64) -> Verdict
     if block_count(view.level4) <= block {
         return Verdict::Refused(Refusal::OutOfRange);
     }
-    let judged = judge(view, image, 4, block, nothing_seen());
-    if judged.verified {
+    if block < first_unverified(view, image, 4, block, block) {
         Verdict::Verified
     } else {
         Verdict::Unproven

@@ -1,9 +1,8 @@
 -- What the functions of a write ask of each other, and their steps. Assumes nothing.
-use mathlib.Core.Path.{_≡_, refl, sym, ap}
+use mathlib.Core.Path.{_≡_, refl, sym, ap, _∙_}
 use mathlib.Core.List.{List, [], _∷_}
 use Prim.Native.Nat.{ℕ, zero, suc, _+_, _-_, _*_, _≤_, _<_}
 use native.Mathlib.Omega.{arith}
-use native.Mathlib.Numerals.{add-one}
 use lib.ListN.{length}
 use lib.Seq.{sets}
 use Rattle.number.specs.declared.Level.{Level}
@@ -14,19 +13,18 @@ use Rattle.dpfs.specs.declared.Space.{Space}
 use Rattle.dpfs.specs.Free.{Free}
 use Rattle.dpfs.specs.Staging as dpfs
 use Rattle.dpfs.proofs.SpaceLaws.{table-free}
-use Rattle.sha256.specs.Sha256.{sha256}
-use Rattle.sha256.proofs.Laws.{length-sha256}
 use Rattle.ivfc.specs.declared.View.{View}
-use Rattle.ivfc.specs.Blocks.{block, parent}
+use Rattle.ivfc.specs.Blocks.{parent}
+use Rattle.ivfc.specs.Rows.{digests}
 use Rattle.ivfc.specs.Rules.{ViewRules}
 use Rattle.ivfc.specs.Views.{levelOf, contentOf}
 use Rattle.ivfc.proofs.ViewLaws.{level-zero, inside-master, inside-inner, level-small}
-use Rattle.ivfc.proofs.VerifiedLaws.{entry-inside, entry-above}
+use Rattle.ivfc.proofs.VerifiedLaws.{entry-above}
 use Rattle.update.specs.Writing.{entered, rehashed, written}
 use Rattle.update.specs.Staged.{putLevel, writtenTo}
 use Rattle.update.specs.Rules.{StagedRules, WriteRules}
 use Rattle.update.proofs.ImageLaws.{Own, master-in-table, master-keeps, inner-keeps, staged-store}
-use Rattle.update.proofs.StoreLaws.{entered-ok}
+use Rattle.update.proofs.StoreLaws.{entered-ok, entered-split, entered-at-once}
 
 -- ---- bytes put into a level
 
@@ -66,29 +64,20 @@ unfolding putLevel levelOf
 length-put space view image r zero x values h fit = master-keeps space view (length image) r image refl x values fit .size
 length-put space view image r (suc i) x values h fit = inner-keeps space view (length image) r image refl x values i h fit .size
 
--- ---- the entries of an interval, one by one
-
--- the image with entry b of level i brought up to date
-abbrev pub oneEntered : View → (i b : ℕ) → List ℕ → List ℕ
-oneEntered view i b image = putLevel view i (32 * b) (sha256 (block (levelOf view (suc i)) (contentOf view image (suc i)) b)) image
-
-pub length-one : (space : Space) (view : View) (image : List ℕ) → StagedRules space view (length image) → (i b : ℕ) → i < 4
-    → b < blocks (levelOf view (suc i)) → length (oneEntered view i b image) ≡ length image
-length-one space view image r i b h e =
-    length-put space view image r i (32 * b) (sha256 (block (levelOf view (suc i)) (contentOf view image (suc i)) b)) (omega arith)
-    (rw length-sha256 (entry-inside (levelOf view) (r .rules .hash) i b h e))
+-- ---- the entries of an interval, some at a time
 
 -- the entries of the blocks b .. last
 abbrev pub entriesFrom : View → (i last b : ℕ) → List ℕ → List ℕ
 entriesFrom view i last b image = entered (levelOf view) (contentOf view) (putLevel view) i b (suc last - b) image
 
 module _ (view : View) (i last b : ℕ) (image : List ℕ) where
-  pub enter-step : b ≤ last → entriesFrom view i last b image ≡ entriesFrom view i last (b + 1) (oneEntered view i b image)
-  unfolding entered
-  enter-step h =
-      let n : suc last - b ≡ suc (last - b) = omega arith in
-      let k : suc last - (b + 1) ≡ last - b = omega arith in
-      rw (n, k, add-one)
+  -- those of n blocks, then those that are left
+  pub enter-step : (n : ℕ) → b + n ≤ suc last
+      → entriesFrom view i last b image ≡ entriesFrom view i last (b + n) (entered (levelOf view) (contentOf view) (putLevel view) i b n image)
+  enter-step n h =
+      let k : suc last - b ≡ n + (suc last - (b + n)) = omega arith in
+      ap (λ (m : ℕ). entered (levelOf view) (contentOf view) (putLevel view) i b m image) k
+      ∙ entered-split (levelOf view) (contentOf view) (putLevel view) i b n (suc last - (b + n)) image
 
   pub enter-end : last < b → entriesFrom view i last b image ≡ image
   unfolding entered
@@ -96,11 +85,27 @@ module _ (view : View) (i last b : ℕ) (image : List ℕ) where
       let n : suc last - b ≡ 0 = omega arith in
       rw n
 
+-- the entries of n blocks from b on are brought up to date at once, and the image stays as long as it is
+module _ (space : Space) (view : View) (image : List ℕ) (r : StagedRules space view (length image)) (i b n : ℕ) (h : i < 4)
+    (e : b + n ≤ blocks (levelOf view (suc i))) where
+  -- by putting their digests one after another
+  pub some-entered : (hashes : List ℕ) → hashes ≡ digests (levelOf view (suc i)) (contentOf view image (suc i)) b n
+      → putLevel view i (32 * b) hashes image ≡ entered (levelOf view) (contentOf view) (putLevel view) i b n image
+  some-entered hashes d =
+      ap (λ (l : List ℕ). putLevel view i (32 * b) l image) d
+      ∙ sym (entered-at-once (r .rules .hash) (staged-store space view (length image) r image refl) i h b n image e (keeps-refl (Own view image) image))
+
+  -- which lie in the level
+  pub some-inside : 32 * b + 32 * n ≤ levelOf view i .size
+  some-inside = omega (arith, r .rules .hash .enough i h)
+
+  pub length-some : length (entered (levelOf view) (contentOf view) (putLevel view) i b n image) ≡ length image
+  length-some =
+      entered-ok (r .rules .hash) (staged-store space view (length image) r image refl) i h b n image e (keeps-refl (Own view image) image) .size
+
 pub length-entered : (space : Space) (view : View) (image : List ℕ) → StagedRules space view (length image) → (i first last : ℕ) → i < 4
     → first ≤ last → last < blocks (levelOf view (suc i)) → length (entriesFrom view i last first image) ≡ length image
-length-entered space view image r i first last h o e =
-    entered-ok (r .rules .hash) (staged-store space view (length image) r image refl) i h first (suc last - first) image (omega arith)
-    (keeps-refl (Own view image) image) .size
+length-entered space view image r i first last h o e = length-some space view image r i first (suc last - first) h (omega arith)
 
 -- ---- level by level
 

@@ -1,7 +1,7 @@
 -- A write to the staged view of an image: its level 4 is overlaid, the touched blocks are verified and the others exactly if they were, and
 -- nothing changes but the staged master hash and the free bytes of the partition. Assumes nothing.
 use mathlib.Core.Path.{_≡_, refl, sym, ap, _∙_, subst}
-use mathlib.Core.List.{List}
+use mathlib.Core.List.{List, [], _++_}
 use mathlib.Core.Bool.{Bool, true, not, _||_}
 use mathlib.Core.Logic.{_≢_, _⊎_, inl, inr, ⊎-elim, ⊎-swap}
 use Prim.Native.Nat.{ℕ, zero, suc, _+_, _-_, _≤_, _<_}
@@ -14,7 +14,7 @@ use Rattle.number.specs.declared.Level.{Level}
 use Rattle.number.specs.Blocks.{blocks, touches}
 use Rattle.number.specs.Bytes.{Outside, overlay}
 use Rattle.number.specs.Frame.{Keeps}
-use Rattle.number.proofs.ListLaws.{sets-in, sets-out}
+use Rattle.number.proofs.ListLaws.{sets-in, sets-out, sets-append}
 use Rattle.number.proofs.OverlayLaws.{overlay-in, overlay-out}
 use Rattle.number.proofs.FrameLaws.{keeps-refl, keeps-trans, keeps-more, keeps-sets}
 use Rattle.dpfs.specs.declared.Tree.{Tree}
@@ -24,7 +24,7 @@ use Rattle.dpfs.specs.Free.{FreeCopy, FreeIn, InRange, Free}
 use Rattle.dpfs.specs.Rules.{WellPlaced, Aside, Among}
 use Rattle.dpfs.specs.Staging as dpfs
 use Rattle.dpfs.proofs.SpareLaws.{Spares, Avoids, spares-or, free-spares, avoids-spares, spared-free, avoided-content, aside-avoids}
-use Rattle.dpfs.proofs.PutLaws.{put-keeps, put-staged}
+use Rattle.dpfs.proofs.PutLaws.{put-keeps, put-staged, put-append}
 use Rattle.dpfs.proofs.SpaceLaws.{among-placed, table-avoids, tree-free, table-free, kept-content}
 use Rattle.ivfc.specs.declared.View.{View}
 use Rattle.ivfc.specs.Blocks.{parent}
@@ -65,6 +65,24 @@ outside-level a b x n y (inr p) h q = inl (omega arith)
 outside-shift : (a x n y : ℕ) → Outside x n y → Outside (a + x) n (a + y)
 outside-shift a x n y (inl p) = inl (omega arith)
 outside-shift a x n y (inr p) = inr (omega arith)
+
+-- ---- a run behind a run is put as one
+
+-- in a level; of none nothing changes
+level-none : (view : View) (i x : ℕ) (image : List ℕ) → putLevel view i x [] image ≡ image
+unfolding putLevel dpfs.put
+level-none view zero x image = refl
+level-none view (suc i) x image = refl
+
+level-append : (view : View) (i x : ℕ) (before rest image : List ℕ)
+    → putLevel view i x (before ++ rest) image ≡ putLevel view i (x + length before) rest (putLevel view i x before image)
+unfolding putLevel
+level-append view zero x before rest image =
+    sym (sets-append image (view .master .offset + x) (view .master .offset + (x + length before)) before rest (omega arith))
+level-append view (suc i) x before rest image =
+    put-append (view .tree) (levelOf view (suc i) .offset + x) before rest image
+    ∙ ap (λ (z : ℕ). dpfs.put (view .tree) z rest (dpfs.put (view .tree) (levelOf view (suc i) .offset + x) before image))
+    (add-assoc (levelOf view (suc i) .offset) x (length before))
 
 -- ---- the bytes that a write may change: the view's master hash, and what is free in its own tree
 
@@ -209,7 +227,14 @@ module _ (space : Space) (view : View) (n : ℕ) (r : StagedRules space view n) 
         (levels-apart view (r .separate) i j h k (λ e. ne (ap suc (sym e)))) fit l)
 
     pub staged-store : Store Ok (contentOf view) (putLevel view) (levelOf view)
-    staged-store = record { stays = stays; put-in = put-in; put-out = put-out; put-else = put-else }
+    staged-store = record {
+      stays = stays;
+      put-in = put-in;
+      put-out = put-out;
+      put-else = put-else;
+      put-none = level-none view;
+      put-append = level-append view;
+    }
 
 -- ---- the write
 

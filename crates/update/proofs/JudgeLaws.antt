@@ -17,8 +17,8 @@ use Rattle.ivfc.specs.Blocks.{parent, child}
 use Rattle.ivfc.specs.Verified.{firstNot}
 use Rattle.ivfc.specs.Views.{levelOf, verified}
 use Rattle.ivfc.specs.Rules.{TreeRules}
-use Rattle.ivfc.proofs.EntryLaws.{parent-mono, child-above, child-below}
-use Rattle.ivfc.proofs.LowestLaws.{Lowest, first-lowest, lowest-one, lowest-past, lowest-under}
+use Rattle.ivfc.proofs.EntryLaws.{parent-mono}
+use Rattle.ivfc.proofs.LowestLaws.{Lowest, first-lowest, lowest-one, lowest-under}
 use Rattle.update.specs.Covering.{covered}
 
 -- ---- refusal 11: a hash block above a touched block is not verified
@@ -40,26 +40,11 @@ module _ (view : View) (image : List ℕ) (rules : TreeRules (levelOf view)) (fi
   logs : 5 ≤ levelOf view 3 .log
   logs = rules .logs 3 (omega arith) .0
 
-  above-lowest : firstNot (aboveVerified view image) first (suc last - first) ≡ min (suc last) (max first (child (levelOf view 3) p))
+  pub above-lowest : firstNot (aboveVerified view image) first (suc last - first) ≡ min (suc last) (max first (child (levelOf view 3) (hashBlock view image first last)))
   above-lowest =
       lowest-one (aboveVerified view image) first last _ _ (first-lowest (aboveVerified view image) first last ordered)
       (lowest-under (levelOf view 3) logs (verified view image 3) first last p ordered
       (first-lowest (verified view image 3) (parent (levelOf view 3) first) (parent (levelOf view 3) last) (parent-mono (levelOf view 3) first last ordered)))
-
-  -- where one of them is not verified, the number is that of the first block, from `first` on, that has its entry there
-  pub above-some : hashBlock view image first last ≤ parent (levelOf view 3) last
-      → (firstNot (aboveVerified view image) first (suc last - first) ≡ max first (child (levelOf view 3) (hashBlock view image first last)))
-      × (max first (child (levelOf view 3) (hashBlock view image first last)) ≤ last)
-  above-some h =
-      let k : child (levelOf view 3) p ≤ last = child-below (levelOf view 3) logs last p h in
-      (omega (arith, above-lowest), omega arith)
-
-  -- else there is none
-  pub above-none : parent (levelOf view 3) last < hashBlock view image first last
-      → (b : ℕ) → first ≤ b → b ≤ last → aboveVerified view image b ≡ true
-  above-none h =
-      let k : last < child (levelOf view 3) p = child-above (levelOf view 3) logs last p h in
-      lowest-past (aboveVerified view image) first last _ (first-lowest (aboveVerified view image) first last ordered) (omega (arith, above-lowest))
 
 -- then a write may go on: what its laws ask of each touched block
 pub touched-vouched : (view : View) (image : List ℕ) (x n : ℕ)

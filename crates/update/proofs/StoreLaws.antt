@@ -1,9 +1,12 @@
--- A store of the levels of a hash tree, and the entries of an interval of blocks brought up to date in it. Assumes nothing.
-use mathlib.Core.Path.{_≡_, refl, ap, _∙_}
-use mathlib.Core.List.{List}
+-- A store of the levels of a hash tree, and the entries of an interval of blocks brought up to date in it: one by one, or all at once.
+-- Assumes nothing.
+use mathlib.Core.Path.{_≡_, refl, sym, ap, _∙_}
+use mathlib.Core.List.{List, [], _++_}
 use mathlib.Core.Logic.{_≢_, inl, inr}
 use Prim.Native.Nat.{ℕ, zero, suc, _+_, _-_, _*_, _≤_, _<_}
 use native.Mathlib.Omega.{arith}
+use native.Mathlib.Nat.{add-zero}
+use native.Mathlib.Numerals.{add-one}
 use native.Mathlib.Decide.{ℕ-discrete}
 use lib.ListN.{length, getD}
 use Rattle.number.specs.declared.Level.{Level}
@@ -13,12 +16,15 @@ use Rattle.number.proofs.ListLaws.{bytes-is}
 use Rattle.sha256.specs.Sha256.{sha256}
 use Rattle.sha256.proofs.Laws.{length-sha256}
 use Rattle.ivfc.specs.Blocks.{block, entry}
+use Rattle.ivfc.specs.Rows.{digests}
 use Rattle.ivfc.specs.Rules.{TreeRules}
+use Rattle.ivfc.proofs.DigestLaws.{length-digests}
 use Rattle.ivfc.proofs.EntryLaws.{block-cong, entry-cong}
 use Rattle.ivfc.proofs.VerifiedLaws.{entry-inside}
 use Rattle.update.specs.Writing.{entered}
 
--- levels 0 to 4 in a state: what is put at a place of a level is read there, nothing else is read otherwise, and the state stays Ok
+-- levels 0 to 4 in a state: what is put at a place of a level is read there, nothing else is read otherwise, the state stays Ok, and a run
+-- behind a run is put as one
 pub record Store {S : Type 0} (Ok : S → Type 0) (read : S → ℕ → ℕ → ℕ) (put : ℕ → ℕ → List ℕ → S → S) (levels : ℕ → Level) : Type 0 where
   pub stays : (i x : ℕ) (values : List ℕ) (s : S) → Ok s → i ≤ 4 → x + length values ≤ levels i .size → Ok (put i x values s)
   pub put-in : (i x : ℕ) (values : List ℕ) (s : S) → Ok s → i ≤ 4 → x + length values ≤ levels i .size
@@ -27,10 +33,24 @@ pub record Store {S : Type 0} (Ok : S → Type 0) (read : S → ℕ → ℕ → 
       → (y : ℕ) → y < levels i .size → Outside x (length values) y → read (put i x values s) i y ≡ read s i y
   pub put-else : (i x : ℕ) (values : List ℕ) (s : S) → Ok s → i ≤ 4 → x + length values ≤ levels i .size
       → (j y : ℕ) → j ≤ 4 → j ≢ i → y < levels j .size → read (put i x values s) j y ≡ read s j y
+  pub put-none : (i x : ℕ) (s : S) → put i x [] s ≡ s
+  pub put-append : (i x : ℕ) (before rest : List ℕ) (s : S) → put i x (before ++ rest) s ≡ put i (x + length before) rest (put i x before s)
 
 -- the digest of block b of level i
 abbrev pub digest : (levels : ℕ → Level) → (content : ℕ → ℕ → ℕ) → (i b : ℕ) → List ℕ
 digest levels content i b = sha256 (block (levels i) (content i) b)
+
+-- the entries of n blocks, then those of the m blocks behind them, are those of all
+pub entered-split : (levels : ℕ → Level) {S : Type 0} (read : S → ℕ → ℕ → ℕ) (put : ℕ → ℕ → List ℕ → S → S) (i b n m : ℕ) (s : S)
+    → entered levels read put i b (n + m) s ≡ entered levels read put i (b + n) m (entered levels read put i b n s)
+unfolding entered
+entered-split levels read put i b zero m s =
+    let e : 0 + m ≡ m = omega arith in
+    rw (e, add-zero)
+entered-split levels read put i b (suc n) m s =
+    let e : suc n + m ≡ suc (n + m) = omega arith in
+    let k : b + suc n ≡ suc b + n = omega arith in
+    rw (e, k) (entered-split levels read put i (suc b) n m (put i (32 * b) (sha256 (block (levels (suc i)) (read s (suc i)) b)) s))
 
 module _ {levels : ℕ → Level} (rules : TreeRules levels) {S : Type 0} {Ok : S → Type 0} {read : S → ℕ → ℕ → ℕ} {put : ℕ → ℕ → List ℕ → S → S}
     (store : Store Ok read put levels) where
@@ -117,3 +137,19 @@ module _ {levels : ℕ → Level} (rules : TreeRules levels) {S : Type 0} {Ok : 
         at (no ne) r =
             r (omega arith)
             ∙ digest-same a s (one i b s) (λ y q. one-else b s (omega arith) o (suc i) y hi (omega arith) q)
+
+    -- the entries of n blocks put at once are those put one by one: no entry changes a block that is hashed
+    pub entered-at-once : (b n : ℕ) (s : S) → b + n ≤ blocks (levels (suc i)) → Ok s
+        → entered levels read put i b n s ≡ put i (32 * b) (digests (levels (suc i)) (read s (suc i)) b n) s
+    unfolding entered digests
+    entered-at-once b zero s h o = sym (store .put-none i (32 * b) s)
+    entered-at-once b (suc n) s h o =
+        ap (λ (k : ℕ). entered levels read put i b k s) (sym (add-one n))
+        ∙ entered-split levels read put i b n 1 s
+        ∙ ap (λ (l : List ℕ). put i (32 * (b + n)) l (entered levels read put i b n s))
+        (digest-same (b + n) s (entered levels read put i b n s) (λ y q. entered-else b n s (omega arith) o (suc i) y hi (omega arith) q))
+        ∙ (λ k. put i (place k) (digest levels (read s) (suc i) (b + n)) (entered-at-once b n s (omega arith) o k))
+        ∙ sym (store .put-append i (32 * b) (digests (levels (suc i)) (read s (suc i)) b n) (digest levels (read s) (suc i) (b + n)) s)
+      where
+        place : 32 * (b + n) ≡ 32 * b + length (digests (levels (suc i)) (read s (suc i)) b n)
+        place = omega (arith, length-digests (levels (suc i)) (read s (suc i)) b n)

@@ -2,17 +2,16 @@
 use dpfs::Space;
 use dpfs::staging::put_bytes;
 use dpfs::staging::store_bytes;
+use ivfc::ENTRY;
 use ivfc::View;
 use ivfc::gathering::level_of;
-use ivfc::verifying::digest_block;
+use ivfc::hashing::digests_from;
 use ivfc::verifying::parent_of;
 use number::blocks::block_of;
 ghost use mathlib.Core.Path.{_≡_};
 ghost use Prim.Native.Nat.{ℕ, suc, _+_, _-_, _*_, _≤_, _<_};
 ghost use lib.ListN.{length};
 ghost use Rattle.number.specs.Blocks.{blocks};
-ghost use Rattle.sha256.specs.Sha256.{sha256};
-ghost use Rattle.ivfc.specs.Blocks.{block};
 ghost use Rattle.ivfc.specs.Views.{levelOf, contentOf};
 ghost use Rattle.update.specs.Writing.{entered, rehashed};
 ghost use Rattle.update.specs.Staged.{putLevel, writtenTo};
@@ -36,13 +35,17 @@ fn put_level(space: Space, view: View, image: &mut [u8], i: u64, x: u64, values:
     }
 }
 
-// Brings the entry of block b up to date: one level higher, in level i.
-fn enter_block(space: Space, view: View, image: &mut [u8], i: u64, b: u64)
-    requires { ⌜ (StagedRules space view (length (now image))) × (i < 4) × (b < blocks (levelOf view (suc i))) ⌝ }
-    ensures { λ _. ⌜ now (image .exit) ≡ putLevel view i (32 * b) (sha256 (block (levelOf view (suc i)) (contentOf view (now (image .entry)) (suc i)) b)) (now (image .entry)) ⌝ }
+// Brings the entries, in level i, of some blocks from b on, before end, up to date, and says of how many.
+fn enter_some(space: Space, view: View, image: &mut [u8], i: u64, b: u64, end: u64) -> u64
+    requires { ⌜ (StagedRules space view (length (now image))) × (i < 4) × (b < end) × (end ≤ blocks (levelOf view (suc i))) ⌝ }
+    ensures { λ r. ⌜ (0 < r) × (b + r ≤ end) × (now (image .exit) ≡ entered (levelOf view) (contentOf view) (putLevel view) i b r (now (image .entry))) ⌝ }
 {
-    let digest = digest_block(view, image, i + 1, b);
-    put_level(space, view, image, i, 32 * b, &digest);
+    let digests = digests_from(view, image, i + 1, b, end);
+    let n = digests.count;
+    let size = (ENTRY * n) as usize;
+    let hashes = digests.bytes;
+    put_level(space, view, image, i, ENTRY * b, &hashes[..size]);
+    n
 }
 
 // The same for the blocks first to last, each of which is hashed once.
@@ -52,8 +55,8 @@ fn enter(space: Space, view: View, image: &mut [u8], i: u64, first: u64, last: u
 {
     let mut b = first;
     while b <= last {
-        enter_block(space, view, image, i, b);
-        b += 1;
+        let n = enter_some(space, view, image, i, b, last + 1);
+        b += n;
     }
 }
 

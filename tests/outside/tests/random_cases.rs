@@ -34,6 +34,7 @@ fn the_model_agrees_and_every_answer_occurs() {
     }
     assert!(tally.count("abandon", 0) > 0 && tally.count("abandon", 13) > 0);
     assert!(tally.power_failures > 0 && tally.writes_upon_writes > 0);
+    assert!(tally.rows > 0, "no call met eight blocks in a row");
 }
 
 /// Ways to go wrong.

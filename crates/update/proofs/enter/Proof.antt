@@ -5,7 +5,7 @@ use Prim.Native.Nat.{suc, _≤_, _-_, _+_}
 use native.Mathlib.Omega.{arith}
 use lib.ListN.{length}
 use Rattle.ivfc.proofs.ViewLaws.{block-small}
-use Rattle.update.proofs.CodeLaws.{length-one, entriesFrom, enter-step, enter-end}
+use Rattle.update.proofs.CodeLaws.{entriesFrom, enter-step, enter-end, length-some}
 use Rattle.update.proofs.enter.Statement.{statement}
 use Rattle.update.proofs.enter.Tie as tie
 
@@ -19,33 +19,41 @@ abbrev μ-loop : tie.MeasureT-loop
 loop-holds : tie.Need-loop-holds Inv-loop μ-loop
 loop-holds c = (omega arith, omega arith, refl, refl)
 
-enter-block-requires : tie.Need-enter-block-requires Inv-loop μ-loop
-enter-block-requires c κs =
+add-enter-some : tie.Need-add-enter-some Inv-loop μ-loop
+add-enter-some c =
+    let a = c .before .before .before .before .args in
     let p = c .before .before .before .before .pre in
-    (rw (c .before .before .loop .inv .2) (p .0), p .1, omega arith)
+    omega (arith, block-small (a .view) (length (a .image .now)) (p .0 .rules) (suc (a .i)) (a .last) (omega arith) (p .3))
+
+enter-some-requires : tie.Need-enter-some-requires Inv-loop μ-loop
+enter-some-requires c κs =
+    let p = c .before .before .before .before .pre in
+    (rw (c .before .before .loop .inv .2) (p .0), p .1, omega arith, omega (arith, p .3))
 
 add-b : tie.Need-add-b Inv-loop μ-loop
 add-b c =
     let a = c .before .before .before .before .before .before .before .args in
     let p = c .before .before .before .before .before .before .before .pre in
-    omega (arith, block-small (a .view) (length (a .image .now)) (p .0 .rules) (suc (a .i)) (a .last) (omega arith) (p .3))
+    let s = c .before .before .enter-some in
+    omega (arith, s .ensures, block-small (a .view) (length (a .image .now)) (p .0 .rules) (suc (a .i)) (a .last) (omega arith) (p .3))
 
 loop-less : tie.Need-loop-less Inv-loop μ-loop
-loop-less c = omega arith
+loop-less c = omega (arith, c .before .before .enter-some .ensures)
 
 loop-again : tie.Need-loop-again Inv-loop μ-loop
 loop-again c =
     let a = c .before .before .before .before .before .before .before .args in
     let p = c .before .before .before .before .before .before .before .pre in
-    let l = c .before .before .before .before .before .loop in (
+    let l = c .before .before .before .before .before .loop in
+    let s = c .before .before .enter-some in (
       omega arith,
-      omega arith,
-      ap length (c .before .before .enter-block .ensures)
-          ∙ length-one (a .space) (a .view) (l .image) (rw (l .inv .2) (p .0)) (a .i) (l .b) (p .1) (omega arith)
+      omega (arith, s .ensures .1),
+      ap length (s .ensures .2)
+          ∙ length-some (a .space) (a .view) (l .image) (rw (l .inv .2) (p .0)) (a .i) (l .b) (s .result) (p .1) (omega (arith, s .ensures .1, p .3))
           ∙ l .inv .2,
       l .inv .3
-          ∙ enter-step (a .view) (a .i) (a .last) (l .b) (l .image) (omega arith)
-          ∙ ap (entriesFrom (a .view) (a .i) (a .last) (l .b + 1)) (sym (c .before .before .enter-block .ensures)),
+          ∙ enter-step (a .view) (a .i) (a .last) (l .b) (l .image) (s .result) (omega (arith, s .ensures .1))
+          ∙ ap (entriesFrom (a .view) (a .i) (a .last) (l .b + s .result)) (sym (s .ensures .2)),
     )
 
 same-length : tie.Need-same-length Inv-loop μ-loop
@@ -63,7 +71,8 @@ enter-spec =
     Inv-loop
     μ-loop
     loop-holds
-    enter-block-requires
+    add-enter-some
+    enter-some-requires
     add-b
     loop-less
     loop-again

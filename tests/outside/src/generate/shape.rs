@@ -182,8 +182,8 @@ fn choose_hash_levels(random: &mut Random, wanted: &Wanted) -> [Level; 4] {
 fn choose_data_size(random: &mut Random) -> u64 {
     match random.below(100) {
         0..=9 => random.between(1, 40),
-        10..=79 => random.between(1, 400),
-        80..=97 => random.between(300, 5000),
+        10..=64 => random.between(1, 400),
+        65..=97 => random.between(300, 5000),
         _ => random.between(4000, 70000),
     }
 }

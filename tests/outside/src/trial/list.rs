@@ -3,6 +3,7 @@
 
 use super::call::{untouched_buffer, Call, Outcome, UNTOUCHED_DESCRIPTION};
 use super::properties::{check_begin, check_commit, check_write, require};
+use super::rows::touches_row;
 use super::tally::Tally;
 use crate::description::{describe, name_at};
 use crate::generate::random::Random;
@@ -115,6 +116,7 @@ impl<'a> List<'a> {
         self.check_subject(call, &before, &session_before, session, &outcome)?;
         self.check_prediction(call, &before, &session_before, &outcome)?;
         if outcome.accepted() {
+            self.tally.rows += u64::from(touches_row(call, &self.image, &self.opened));
             self.check_accepted(call, &before, &session_before, session, &outcome)?;
         } else {
             let untouched = self.image == before

@@ -3,6 +3,7 @@
 pub mod call;
 pub mod list;
 pub mod properties;
+mod rows;
 pub mod tally;
 
 use crate::generate::damage::{any_damage, damaged_image, mutate, patient, Damage, DAMAGES};

@@ -12,6 +12,8 @@ pub struct Tally {
     pub power_failures: u64,
     /// Accepted writes in which a level 3 block had moved already, so that it must be left alone.
     pub writes_upon_writes: u64,
+    /// Accepted calls over blocks that may be hashed side by side.
+    pub rows: u64,
 }
 
 impl Tally {
@@ -48,6 +50,10 @@ impl std::fmt::Display for Tally {
                 write!(out, "{count:>7}")?;
             }
         }
-        write!(out, "\npower failures {}, writes upon moved blocks {}", self.power_failures, self.writes_upon_writes)
+        write!(
+            out,
+            "\npower failures {}, writes upon moved blocks {}, calls over rows of eight blocks {}",
+            self.power_failures, self.writes_upon_writes, self.rows
+        )
     }
 }

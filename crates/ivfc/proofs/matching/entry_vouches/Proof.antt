@@ -1,8 +1,8 @@
 -- `entry_vouches` is the comparison of the two slices. Assumes nothing.
 use borrow.Author.Needs.{needs}
 use Rattle.ivfc.specs.Verified.{vouches}
-use Rattle.ivfc.proofs.verifying.entry_vouches.Statement.{statement}
-use Rattle.ivfc.proofs.verifying.entry_vouches.Tie as tie
+use Rattle.ivfc.proofs.matching.entry_vouches.Statement.{statement}
+use Rattle.ivfc.proofs.matching.entry_vouches.Tie as tie
 
 same-bytes-requires : tie.Need-same-bytes-requires
 same-bytes-requires c κs = search needs

@@ -6,8 +6,8 @@ use native.Mathlib.Omega.{arith}
 use lib.ListN.{length, replicate, length-replicate}
 use Rattle.sha256.specs.Running.{Holds}
 use Rattle.ivfc.proofs.FeedLaws.{fed-zeros, take-zeros}
-use Rattle.ivfc.proofs.verifying.feed_zeros.Statement.{statement}
-use Rattle.ivfc.proofs.verifying.feed_zeros.Tie as tie
+use Rattle.ivfc.proofs.hashing.feed_zeros.Statement.{statement}
+use Rattle.ivfc.proofs.hashing.feed_zeros.Tie as tie
 
 abbrev Inv-loop : tie.InvT-loop
 Inv-loop n zeros fed₀ left₀ fed left =

@@ -7,8 +7,8 @@ use Rattle.number.specs.Bytes.{bytes}
 use Rattle.sha256.specs.Running.{Holds}
 use Rattle.ivfc.specs.Views.{contentOf}
 use Rattle.ivfc.proofs.FeedLaws.{fed-run, fed-none}
-use Rattle.ivfc.proofs.verifying.feed_level.Statement.{statement}
-use Rattle.ivfc.proofs.verifying.feed_level.Tie as tie
+use Rattle.ivfc.proofs.hashing.feed_level.Statement.{statement}
+use Rattle.ivfc.proofs.hashing.feed_level.Tie as tie
 
 abbrev Inv-loop : tie.InvT-loop
 Inv-loop view image i x end fed₀ at₀ fed at =

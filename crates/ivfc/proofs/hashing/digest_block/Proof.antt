@@ -13,8 +13,8 @@ use Rattle.sha256.specs.Sha256.{sha256}
 use Rattle.ivfc.specs.Views.{levelOf, contentOf}
 use Rattle.ivfc.proofs.ViewLaws.{level-small, Measured, measured}
 use Rattle.ivfc.proofs.FeedLaws.{fed-block}
-use Rattle.ivfc.proofs.verifying.digest_block.Statement.{statement}
-use Rattle.ivfc.proofs.verifying.digest_block.Tie as tie
+use Rattle.ivfc.proofs.hashing.digest_block.Statement.{statement}
+use Rattle.ivfc.proofs.hashing.digest_block.Tie as tie
 
 level-of-requires : tie.Need-level-of-requires
 level-of-requires c κs = search needs
