@@ -35,7 +35,8 @@ use Rattle.update.specs.Staged.{writtenTo}
 use Rattle.update.specs.Rules.{StagedRules, WriteRules}
 use Rattle.update.proofs.ImageLaws.{write-free, write-bytes, write-verified, write-other, write-table}
 use Rattle.views.specs.Places.{partitions, slotOf, partitionOf, treeOf, viewIn, masterIn, stagedView, spaceOf}
-use Rattle.views.proofs.PlaceLaws.{second-there, third-missing, staged-rules, staged-apart, staged-master, space-rules, tree-among}
+use Rattle.steps.proofs.WriteLaws.{staged-write-rules}
+use Rattle.views.proofs.PlaceLaws.{second-there, third-missing, staged-rules, staged-master, tree-among}
 use Rattle.steps.specs.declared.Outcome.{Outcome}
 use Rattle.steps.specs.declared.Outcome.the-variants as outcome
 use Rattle.steps.specs.Reading.{touched, refuseLowest, refuseOutside}
@@ -113,27 +114,8 @@ module _ (image : List ℕ) (c : Container) (o : opened image ≡ opening.Valid 
   after = writtenTo (stagedView c q) place values image
 
   staged : StagedRules (spaceOf c) (stagedView c q) (length image)
-  unfolding stagedView viewIn spaceOf
-  staged =
-      let s = staged-apart image c g q there in
-      let m = staged-master image c g q there in
-      record {
-        places = space-rules image c g;
-        among = tree-among image c g q there;
-        rules = staged-rules image c g q there;
-        internal = internal;
-        staged = refl;
-        separate = record {
-          apart12 = s .apart12;
-          apart13 = s .apart13;
-          apart14 = s .apart14 internal;
-          apart23 = s .apart23;
-          apart24 = s .apart24 internal;
-          apart34 = s .apart34 internal;
-        };
-        master-from = m .0;
-        master-to = m .1;
-      }
+  unfolding stagedView viewIn
+  staged = staged-write-rules image c g q there internal
 
   write : WriteRules (spaceOf c) (stagedView c q) image place values
   write = record { rules = staged; fits = write-fits (stagedView c q) image place (length values) ok }

@@ -4,6 +4,7 @@ use mathlib.Core.List.{List}
 use mathlib.Core.Bool.{true, false}
 use Prim.Native.Nat.{ℕ, zero, suc, _+_, _-_, _*_, _≤_, _<_}
 use Rattle.number.specs.declared.Level.{Level}
+use Rattle.number.specs.Ranges.{Apart, levelRange}
 use Rattle.number.specs.Blocks.{blocks}
 use Rattle.dpfs.specs.Rules.{WellPlaced}
 use Rattle.ivfc.specs.declared.View.{View}
@@ -28,6 +29,15 @@ pub record ViewRules (view : View) (n : ℕ) : Type 0 where
   pub inner4 : view .external ≡ false → view .level4 .offset + view .level4 .size ≤ view .tree .level3 .size
   pub outer4 : view .external ≡ true → view .outside + view .level4 .size ≤ n
   pub master : view .master .offset + view .master .size ≤ n
+
+-- the hash levels and an internal level 4 stand in DPFS level 3 pairwise apart
+pub record LevelsApart (view : View) : Type 0 where
+  pub apart12 : Apart (levelRange (view .level1)) (levelRange (view .level2))
+  pub apart13 : Apart (levelRange (view .level1)) (levelRange (view .level3))
+  pub apart23 : Apart (levelRange (view .level2)) (levelRange (view .level3))
+  pub apart14 : view .external ≡ false → Apart (levelRange (view .level1)) (levelRange (view .level4))
+  pub apart24 : view .external ≡ false → Apart (levelRange (view .level2)) (levelRange (view .level4))
+  pub apart34 : view .external ≡ false → Apart (levelRange (view .level3)) (levelRange (view .level4))
 
 -- the first of the blocks first to last of level i that is not verified, else last + 1
 abbrev pub firstUnverified : View → List ℕ → (i first last : ℕ) → ℕ

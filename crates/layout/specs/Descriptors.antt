@@ -7,7 +7,7 @@ use lib.Dec.{leb, eqb}
 use Rattle.number.specs.declared.Range.{Range}
 use Rattle.number.specs.declared.Level.{Level}
 use Rattle.number.specs.Fields.{le64}
-use Rattle.number.specs.Ranges.{inside, placed, twice, part}
+use Rattle.number.specs.Ranges.{inside, placed, twice, part, levelRange}
 use Rattle.number.specs.Blocks.{blocks}
 use Rattle.layout.specs.Limits.{difiSize, ivfcSize, dpfsSize, masterAllowed, leastLog, leastBitsLog, mostLog, wordSize, entrySize}
 use Rattle.layout.specs.Every.{every}
@@ -120,10 +120,6 @@ formAllowed d p = every
 -- DIFI, at the descriptor's start
 abbrev pub difiRange : Range
 difiRange = record { offset = 0; size = difiSize }
-
--- a level's bytes: those of one half, in DPFS
-abbrev pub levelRange : Level → Range
-levelRange l = record { offset = l .offset; size = l .size }
 
 -- an external level 4, from the partition's start
 abbrev pub externalRange : Partition → Range

@@ -7,14 +7,14 @@ use mathlib.Core.Logic.{_⊎_}
 use mathlib.Core.Path.{_≡_}
 use lib.ListN.{length}
 use Rattle.number.specs.declared.Level.{Level}
-use Rattle.number.specs.Ranges.{Apart, twice, part}
+use Rattle.number.specs.Ranges.{Apart, levelRange, twice, part}
 use Rattle.number.specs.Blocks.{blocks}
 use Rattle.sha256.specs.Sha256.{sha256}
 use Rattle.layout.specs.Limits.{shortestImage, longestImage, tableLimit, difiSize, ivfcSize, dpfsSize, masterSize, leastLog, leastBitsLog, mostLog, wordSize, entrySize}
 use Rattle.layout.specs.Magic.{opensWith}
 use Rattle.layout.specs.Headers.{front, headerBytes, hashRange, headerMagic, headerFields}
 use Rattle.layout.specs.Tables.{active}
-use Rattle.layout.specs.Descriptors.{partitionFields, levelRange, externalRange}
+use Rattle.layout.specs.Descriptors.{partitionFields, externalRange}
 use Rattle.layout.specs.declared.Header.{Header}
 use Rattle.layout.specs.declared.Slot.{Slot}
 use Rattle.layout.specs.declared.Partition.{Partition}

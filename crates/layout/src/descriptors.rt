@@ -23,9 +23,9 @@ ghost use mathlib.Core.Bool.{true, false, cond};
 ghost use mathlib.Core.List.{[], _∷_};
 ghost use Prim.Native.Nat.{_+_, _<_, _^_};
 ghost use Rattle.number.specs.Fields.{le64};
-ghost use Rattle.number.specs.Ranges.{placed, twice};
+ghost use Rattle.number.specs.Ranges.{placed, levelRange, twice};
 ghost use Rattle.layout.specs.Limits.{masterAllowed};
-ghost use Rattle.layout.specs.Descriptors.{logAt, levelAt, difiFields, ivfcFields, dpfsFields, partitionFields, sizeAllowed, levelAllowed, difiAllowed, ivfcAllowed, dpfsAllowed, formAllowed, levelRange, piecesPlaced, levelsPlaced, enoughBits, enoughEntries, allEnough, placesAllowed, judgedPartition};
+ghost use Rattle.layout.specs.Descriptors.{logAt, levelAt, difiFields, ivfcFields, dpfsFields, partitionFields, sizeAllowed, levelAllowed, difiAllowed, ivfcAllowed, dpfsAllowed, formAllowed, piecesPlaced, levelsPlaced, enoughBits, enoughEntries, allEnough, placesAllowed, judgedPartition};
 
 const DIFI_SIZE: u64 = 0x44;
 

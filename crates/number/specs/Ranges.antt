@@ -6,6 +6,7 @@ use mathlib.Core.Logic.{_⊎_}
 use lib.ListN.{take, drop}
 use lib.Dec.{leb}
 use Rattle.number.specs.declared.Range.{Range}
+use Rattle.number.specs.declared.Level.{Level}
 
 -- the size bytes from offset on lie in the whole
 unfoldable pub inside : (offset size whole : ℕ) → Bool
@@ -18,6 +19,10 @@ apart a b = inside (a .offset) (a .size) (b .offset) || inside (b .offset) (b .s
 -- the same as orders of numbers
 abbrev pub Apart : Range → Range → Type 0
 Apart a b = (a .offset + a .size ≤ b .offset) ⊎ (b .offset + b .size ≤ a .offset)
+
+-- a level's bytes: those of one half, in DPFS
+abbrev pub levelRange : Level → Range
+levelRange l = record { offset = l .offset; size = l .size }
 
 -- a range has at least one byte and lies in the whole
 unfoldable pub fits : (whole : ℕ) → Range → Bool

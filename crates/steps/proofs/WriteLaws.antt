@@ -39,7 +39,7 @@ use Rattle.ivfc.specs.Rules.{ViewRules}
 use Rattle.ivfc.proofs.LowestLaws.{first-lowest, lowest-past}
 use Rattle.update.specs.Staged.{writtenTo}
 use Rattle.update.specs.Covering.{covered}
-use Rattle.update.specs.Rules.{Separate, StagedRules, WriteRules}
+use Rattle.update.specs.Rules.{StagedRules, WriteRules}
 use Rattle.update.proofs.ImageLaws as update
 use Rattle.views.specs.Places.{partitions, slotOf, partitionOf, treeOf, masterIn, viewIn, committedView, stagedView, spaceOf}
 use Rattle.views.proofs.PlaceLaws.{present, inactive-table, tree-rules, space-rules, tree-among, staged-rules, staged-apart, staged-master, first-there, second-there, third-missing}
@@ -139,18 +139,6 @@ masters-apart image c g q r k l a y h (p, s) =
 -- ---- the rules that a write asks for are met
 
 module _ (image : List ℕ) (c : Container) (g : Guarantees image c) (q : ℕ) (k : q < partitions c) where
-  pub separate : stagedView c q .external ≡ false → Separate (stagedView c q)
-  separate e =
-      let a = staged-apart image c g q k in
-      record {
-        apart12 = a .apart12;
-        apart13 = a .apart13;
-        apart14 = a .apart14 e;
-        apart23 = a .apart23;
-        apart24 = a .apart24 e;
-        apart34 = a .apart34 e;
-      }
-
   pub staged-write-rules : stagedView c q .external ≡ false → StagedRules (spaceOf c) (stagedView c q) (length image)
   unfolding spaceOf stagedView viewIn
   staged-write-rules e = record {
@@ -159,7 +147,7 @@ module _ (image : List ℕ) (c : Container) (g : Guarantees image c) (q : ℕ) (
     rules = staged-rules image c g q k;
     internal = e;
     staged = refl;
-    separate = separate e;
+    separate = staged-apart image c g q k;
     master-from = staged-master image c g q k .0;
     master-to = staged-master image c g q k .1;
   }

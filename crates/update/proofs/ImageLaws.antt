@@ -2,7 +2,7 @@
 -- nothing changes but the staged master hash and the free bytes of the partition. Assumes nothing.
 use mathlib.Core.Path.{_≡_, refl, sym, ap, _∙_, subst}
 use mathlib.Core.List.{List, [], _++_}
-use mathlib.Core.Bool.{Bool, true, not, _||_}
+use mathlib.Core.Bool.{Bool, true, false, not, _||_}
 use mathlib.Core.Logic.{_≢_, _⊎_, inl, inr, ⊎-elim, ⊎-swap}
 use Prim.Native.Nat.{ℕ, zero, suc, _+_, _-_, _≤_, _<_}
 use native.Mathlib.Omega.{arith}
@@ -11,6 +11,7 @@ use native.Mathlib.Decide.{decLt}
 use lib.ListN.{length, getD}
 use lib.Seq.{sets}
 use Rattle.number.specs.declared.Level.{Level}
+use Rattle.number.specs.Ranges.{Apart, levelRange}
 use Rattle.number.specs.Blocks.{blocks, touches}
 use Rattle.number.specs.Bytes.{Outside, overlay}
 use Rattle.number.specs.Frame.{Keeps}
@@ -29,36 +30,39 @@ use Rattle.dpfs.proofs.SpaceLaws.{among-placed, table-avoids, tree-free, table-
 use Rattle.ivfc.specs.declared.View.{View}
 use Rattle.ivfc.specs.Blocks.{parent}
 use Rattle.ivfc.specs.Views.{levelOf, contentOf, verified}
+use Rattle.ivfc.specs.Rules.{LevelsApart}
 use Rattle.ivfc.proofs.ViewLaws.{content-inner, inside-inner}
 use Rattle.update.specs.Staged.{putLevel, writtenTo}
-use Rattle.update.specs.Rules.{Apart, Separate, StagedRules, WriteRules}
+use Rattle.update.specs.Rules.{StagedRules, WriteRules}
 use Rattle.update.proofs.StoreLaws.{Store}
 use Rattle.update.proofs.WriteLaws.{Written, written-is}
 
 -- ---- the levels of a staged view inside DPFS level 3
 
-apart-ordered : (view : View) → Separate view → (i j : ℕ) → i < j → j < 4 → Apart (levelOf view (suc i)) (levelOf view (suc j))
+apart-ordered : (view : View) → LevelsApart view → view .external ≡ false → (i j : ℕ) → i < j → j < 4
+    → Apart (levelRange (levelOf view (suc i))) (levelRange (levelOf view (suc j)))
 unfolding levelOf
-apart-ordered view s i zero h k = absurd (omega arith)
-apart-ordered view s zero (suc zero) h k = s .apart12
-apart-ordered view s zero (suc (suc zero)) h k = s .apart13
-apart-ordered view s zero (suc (suc (suc j))) h k = s .apart14
-apart-ordered view s (suc i) (suc zero) h k = absurd (omega arith)
-apart-ordered view s (suc zero) (suc (suc zero)) h k = s .apart23
-apart-ordered view s (suc zero) (suc (suc (suc j))) h k = s .apart24
-apart-ordered view s (suc (suc i)) (suc (suc zero)) h k = absurd (omega arith)
-apart-ordered view s (suc (suc zero)) (suc (suc (suc j))) h k = s .apart34
-apart-ordered view s (suc (suc (suc i))) (suc (suc (suc j))) h k = absurd (omega arith)
+apart-ordered view s e i zero h k = absurd (omega arith)
+apart-ordered view s e zero (suc zero) h k = s .apart12
+apart-ordered view s e zero (suc (suc zero)) h k = s .apart13
+apart-ordered view s e zero (suc (suc (suc j))) h k = s .apart14 e
+apart-ordered view s e (suc i) (suc zero) h k = absurd (omega arith)
+apart-ordered view s e (suc zero) (suc (suc zero)) h k = s .apart23
+apart-ordered view s e (suc zero) (suc (suc (suc j))) h k = s .apart24 e
+apart-ordered view s e (suc (suc i)) (suc (suc zero)) h k = absurd (omega arith)
+apart-ordered view s e (suc (suc zero)) (suc (suc (suc j))) h k = s .apart34 e
+apart-ordered view s e (suc (suc (suc i))) (suc (suc (suc j))) h k = absurd (omega arith)
 
-levels-apart : (view : View) → Separate view → (i j : ℕ) → i < 4 → j < 4 → i ≢ j → Apart (levelOf view (suc i)) (levelOf view (suc j))
-levels-apart view s i j h k ne = go (decLt i j)
+levels-apart : (view : View) → LevelsApart view → view .external ≡ false → (i j : ℕ) → i < 4 → j < 4 → i ≢ j
+    → Apart (levelRange (levelOf view (suc i))) (levelRange (levelOf view (suc j)))
+levels-apart view s e i j h k ne = go (decLt i j)
   where
-    go : Dec (i < j) → Apart (levelOf view (suc i)) (levelOf view (suc j))
-    go (yes l) = apart-ordered view s i j l k
-    go (no l) = ⊎-swap (apart-ordered view s j i (omega arith) h)
+    go : Dec (i < j) → Apart (levelRange (levelOf view (suc i))) (levelRange (levelOf view (suc j)))
+    go (yes l) = apart-ordered view s e i j l k
+    go (no l) = ⊎-swap (apart-ordered view s e j i (omega arith) h)
 
 -- n bytes from x on of one level are none of another's
-outside-level : (a b : Level) (x n y : ℕ) → Apart a b → x + n ≤ a .size → y < b .size → Outside (a .offset + x) n (b .offset + y)
+outside-level : (a b : Level) (x n y : ℕ) → Apart (levelRange a) (levelRange b) → x + n ≤ a .size → y < b .size → Outside (a .offset + x) n (b .offset + y)
 outside-level a b x n y (inl p) h q = inr (omega arith)
 outside-level a b x n y (inr p) h q = inl (omega arith)
 
@@ -224,7 +228,7 @@ module _ (space : Space) (view : View) (n : ℕ) (r : StagedRules space view n) 
     put-else (suc i) x values image ok h fit (suc j) y k ne l =
         inner-same image (ok .size ∙ whole) x values i h fit j y k l
         (outside-level (levelOf view (suc i)) (levelOf view (suc j)) x (length values) y
-        (levels-apart view (r .separate) i j h k (λ e. ne (ap suc (sym e)))) fit l)
+        (levels-apart view (r .separate) (r .internal) i j h k (λ e. ne (ap suc (sym e)))) fit l)
 
     pub staged-store : Store Ok (contentOf view) (putLevel view) (levelOf view)
     staged-store = record {

@@ -21,13 +21,12 @@ use Rattle.layout.specs.declared.Second.the-variants.{Missing, There}
 use Rattle.layout.specs.declared.Container.{Container}
 use Rattle.layout.specs.Headers.{front}
 use Rattle.layout.specs.Tables.{active, inactive}
-use Rattle.layout.specs.Descriptors.{levelRange}
 use Rattle.layout.specs.Guarantees.{SlotGuarantees, HeaderGuarantees, PartitionGuarantees, Described, SecondGuarantees, Guarantees}
 use Rattle.dpfs.specs.declared.Tree.{Tree}
 use Rattle.dpfs.specs.Rules.{Disjoint, WellPlaced, Aside, Beyond, BeyondAll, SpaceRules, Among}
 use Rattle.ivfc.specs.declared.View.{View}
 use Rattle.ivfc.specs.Views.{levelOf}
-use Rattle.ivfc.specs.Rules.{TreeRules, ViewRules}
+use Rattle.ivfc.specs.Rules.{TreeRules, ViewRules, LevelsApart}
 use Rattle.views.specs.Places.{partitions, slotOf, partitionOf, treeIn, masterIn, viewIn, treeOf, committedView, stagedView, spaceOf}
 
 -- ---- one partition, by its slot in the header and its fields
@@ -159,15 +158,7 @@ module _ (n : ℕ) (h : Header) (slot : Slot) (p : Partition) (s : SlotGuarantee
     master = omega (arith, master-inside table e);
   }
 
--- the hash levels and an internal level 4 stand in DPFS level 3 pairwise apart
-pub record LevelsApart (view : View) : Type 0 where
-  pub apart12 : Apart (levelRange (view .level1)) (levelRange (view .level2))
-  pub apart13 : Apart (levelRange (view .level1)) (levelRange (view .level3))
-  pub apart23 : Apart (levelRange (view .level2)) (levelRange (view .level3))
-  pub apart14 : view .external ≡ false → Apart (levelRange (view .level1)) (levelRange (view .level4))
-  pub apart24 : view .external ≡ false → Apart (levelRange (view .level2)) (levelRange (view .level4))
-  pub apart34 : view .external ≡ false → Apart (levelRange (view .level3)) (levelRange (view .level4))
-
+-- its levels are pairwise apart
 levels-apart : (table : Range) (slot : Slot) (p : Partition) (half : Bool) → PartitionGuarantees (slot .partition .size) (slot .descriptor .size) p
     → LevelsApart (viewIn table slot p half)
 unfolding viewIn

@@ -11,13 +11,13 @@ use borrow.Author.Tests.{eqb-true}
 use Rattle.number.specs.declared.Range.{Range}
 use Rattle.number.specs.declared.Level.{Level}
 use Rattle.number.specs.Blocks.{blockOf}
-use Rattle.number.specs.Ranges.{Apart, twice}
+use Rattle.number.specs.Ranges.{Apart, levelRange, twice}
 use Rattle.number.proofs.RangeLaws.{apart-swap}
 use Rattle.layout.specs.declared.Partition.{Partition}
 use Rattle.layout.specs.declared.Container.{Container}
 use Rattle.layout.specs.Headers.{front}
 use Rattle.layout.specs.Tables.{active, inactive}
-use Rattle.layout.specs.Descriptors.{levelRange, externalRange}
+use Rattle.layout.specs.Descriptors.{externalRange}
 use Rattle.layout.specs.Guarantees.{Guarantees, ExternalGuarantees}
 use Rattle.dpfs.specs.declared.Tree.{Tree}
 use Rattle.dpfs.specs.Tree.{place, select1, select2, select3}
