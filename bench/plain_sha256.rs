@@ -1,6 +1,11 @@
-// SHA-256 in plain Rust, written for speed: what the proved crate is measured against. The 64 rounds are written out in full (no loop, no
-// array index that is not a constant), the working variables change names instead of places, and the schedule is 16 words that are renewed
-// as they are used. Three forms of the functions Ch and Maj are tried; the table compares with whichever is fastest at each size.
+//! (b): SHA-256 in plain Rust, written for speed: what the proved library is measured against. The 64 rounds are
+//! written out in full (no loop, no array index that is not a constant), the working variables change names instead of
+//! places, and the schedule is 16 words that are renewed as they are used. Three forms of the functions Ch and Maj are
+//! tried; the fastest one counts.
+
+pub type Sha256 = fn(&[u8]) -> [u8; 32];
+
+pub const FORMS: [Sha256; 3] = [standard, shorter, early];
 
 #[rustfmt::skip]
 const K: [u32; 64] = [
@@ -14,9 +19,8 @@ const K: [u32; 64] = [
     0x748f82ee, 0x78a5636f, 0x84c87814, 0x8cc70208, 0x90befffa, 0xa4506ceb, 0xbef9a3f7, 0xc67178f2,
 ];
 
-const START: [u32; 8] = [
-    0x6a09e667, 0xbb67ae85, 0x3c6ef372, 0xa54ff53a, 0x510e527f, 0x9b05688c, 0x1f83d9ab, 0x5be0cd19,
-];
+const START: [u32; 8] =
+    [0x6a09e667, 0xbb67ae85, 0x3c6ef372, 0xa54ff53a, 0x510e527f, 0x9b05688c, 0x1f83d9ab, 0x5be0cd19];
 
 #[inline(always)]
 fn sum0(x: u32) -> u32 {
@@ -41,11 +45,7 @@ fn sigma1(x: u32) -> u32 {
 // One round: the standard's Ch and Maj.
 macro_rules! standard {
     ($old:ident, $a:ident, $b:ident, $c:ident, $d:ident, $e:ident, $f:ident, $g:ident, $h:ident, $k:expr, $w:expr) => {
-        let t = $h
-            .wrapping_add(sum1($e))
-            .wrapping_add(($e & $f) ^ (!$e & $g))
-            .wrapping_add($k)
-            .wrapping_add($w);
+        let t = $h.wrapping_add(sum1($e)).wrapping_add(($e & $f) ^ (!$e & $g)).wrapping_add($k).wrapping_add($w);
         $d = $d.wrapping_add(t);
         $h = t.wrapping_add(sum0($a).wrapping_add(($a & $b) ^ ($a & $c) ^ ($b & $c)));
     };
@@ -54,11 +54,7 @@ macro_rules! standard {
 // One round: Ch with one operation less; Maj by what the round before left of it.
 macro_rules! shorter {
     ($old:ident, $a:ident, $b:ident, $c:ident, $d:ident, $e:ident, $f:ident, $g:ident, $h:ident, $k:expr, $w:expr) => {
-        let t = $h
-            .wrapping_add(sum1($e))
-            .wrapping_add($g ^ ($e & ($f ^ $g)))
-            .wrapping_add($k)
-            .wrapping_add($w);
+        let t = $h.wrapping_add(sum1($e)).wrapping_add($g ^ ($e & ($f ^ $g))).wrapping_add($k).wrapping_add($w);
         let new = $a ^ $b;
         $d = $d.wrapping_add(t);
         $h = t.wrapping_add(sum0($a).wrapping_add($b ^ (new & $old)));
@@ -69,10 +65,7 @@ macro_rules! shorter {
 // One round: the same, with the sums in another order (the word, the constant and h first, which are there early).
 macro_rules! early {
     ($old:ident, $a:ident, $b:ident, $c:ident, $d:ident, $e:ident, $f:ident, $g:ident, $h:ident, $k:expr, $w:expr) => {
-        let t = $h
-            .wrapping_add($k.wrapping_add($w))
-            .wrapping_add($g ^ ($e & ($f ^ $g)))
-            .wrapping_add(sum1($e));
+        let t = $h.wrapping_add($k.wrapping_add($w)).wrapping_add($g ^ ($e & ($f ^ $g))).wrapping_add(sum1($e));
         let new = $a ^ $b;
         $d = $d.wrapping_add(t);
         $h = t.wrapping_add(sum0($a).wrapping_add($b ^ (new & $old)));
@@ -81,7 +74,8 @@ macro_rules! early {
 }
 
 macro_rules! eight {
-    ($round:ident, $old:ident, $a:ident, $b:ident, $c:ident, $d:ident, $e:ident, $f:ident, $g:ident, $h:ident, $t:expr, $w:ident, $i:expr) => {
+    ($round:ident, $old:ident, $a:ident, $b:ident, $c:ident, $d:ident, $e:ident, $f:ident, $g:ident, $h:ident,
+     $t:expr, $w:ident, $i:expr) => {
         $round!($old, $a, $b, $c, $d, $e, $f, $g, $h, K[$t], $w[$i]);
         $round!($old, $h, $a, $b, $c, $d, $e, $f, $g, K[$t + 1], $w[$i + 1]);
         $round!($old, $g, $h, $a, $b, $c, $d, $e, $f, K[$t + 2], $w[$i + 2]);
@@ -160,14 +154,14 @@ fn digest(message: &[u8], compress: impl Fn(&mut [u32; 8], &[u8; 64])) -> [u8; 3
     out
 }
 
-pub fn standard(message: &[u8]) -> [u8; 32] {
+fn standard(message: &[u8]) -> [u8; 32] {
     digest(message, compress_standard)
 }
 
-pub fn shorter(message: &[u8]) -> [u8; 32] {
+fn shorter(message: &[u8]) -> [u8; 32] {
     digest(message, compress_shorter)
 }
 
-pub fn early(message: &[u8]) -> [u8; 32] {
+fn early(message: &[u8]) -> [u8; 32] {
     digest(message, compress_early)
 }

@@ -1,0 +1,104 @@
+//! The proved library through its C boundary against (a) a straightforward Rust version of the same calls, (b) the best
+//! plain Rust SHA-256, (c) openssl. `bench/run` builds and runs it.
+
+mod begun;
+mod calls;
+mod counting;
+mod growth;
+mod image;
+mod measures;
+mod openssl;
+mod plain_sha256;
+mod rows;
+mod straightforward;
+mod timing;
+
+#[path = "../tests/outside/src/boundary.rs"]
+#[allow(dead_code)]
+mod boundary;
+#[path = "../tests/outside/src/description.rs"]
+#[allow(dead_code)]
+mod description;
+#[path = "../tests/outside/src/subject.rs"]
+#[allow(dead_code)]
+mod subject;
+
+/// The independent rules, with a SHA-256 that counts.
+#[path = "../tests/outside/src/rules"]
+#[allow(dead_code)]
+mod rules {
+    pub mod calls;
+    pub mod descriptor;
+    pub mod dpfs;
+    pub mod extent;
+    pub mod header;
+    pub mod ivfc;
+    pub mod opening;
+    pub mod refusal;
+    pub mod session;
+    pub mod staging;
+    pub mod sha256 {
+        pub use crate::counting::sha256;
+    }
+}
+
+use std::process::ExitCode;
+
+use growth::Growth;
+use measures::World;
+use rows::{print_cells, print_head, Row, DIGEST_OF_BLOCK, LONG_READ, LONG_WRITE, ROWS};
+
+const GROWTH: &str = "growth";
+
+fn main() -> ExitCode {
+    let words: Vec<String> = std::env::args().skip(1).collect();
+    let wanted = |name: &str| words.is_empty() || words.iter().any(|word| name.contains(word.as_str()));
+    let mut rows = Vec::new();
+    let world = World::new();
+    print_head();
+    for (name, measure) in ROWS.into_iter().filter(|(name, _)| wanted(name)) {
+        match measure(&world) {
+            Some(row) => {
+                row.print(name);
+                rows.push((name, row));
+            }
+            None => print_cells(name, &["no openssl"]),
+        }
+    }
+    let growth = wanted(GROWTH).then(Growth::measured);
+    if let Some(growth) = &growth {
+        println!();
+        growth.print();
+    }
+    println!();
+    if print_bars(&rows, growth.as_ref()) {
+        ExitCode::SUCCESS
+    } else {
+        ExitCode::FAILURE
+    }
+}
+
+/// Prints the bars of what was measured: whether all hold.
+fn print_bars(rows: &[(&str, Row)], growth: Option<&Growth>) -> bool {
+    let row = |name| rows.iter().find(|(other, _)| *other == name).map(|(_, row)| row);
+    let bars = [
+        row(DIGEST_OF_BLOCK).map(|row| at_least("digest of 4 KiB, speed/(b)", row.speed_to_b(), 0.97)),
+        row(LONG_READ).map(|row| at_least("verified read of 4096 blocks, speed/(b)", row.speed_to_b(), 1.8)),
+        row(LONG_WRITE).and_then(Row::time_to_a).map(|ratio| at_most("write of 64 blocks, time/(a)", ratio, 0.25)),
+        growth.map(|growth| at_most("write of 1 byte, 64 MiB to 1 MiB", growth.of_writes(), 1.2)),
+    ];
+    bars.into_iter().flatten().fold(true, |all, holds| all & holds)
+}
+
+fn at_least(name: &str, value: f64, bar: f64) -> bool {
+    print_bar(name, value, &format!("at least {bar}"), value >= bar)
+}
+
+fn at_most(name: &str, value: f64, bar: f64) -> bool {
+    print_bar(name, value, &format!("at most {bar}"), value <= bar)
+}
+
+fn print_bar(name: &str, value: f64, bar: &str, holds: bool) -> bool {
+    println!("{name:<40} {value:>6.3} {bar:>13}: {}", if holds { "holds" } else { "FAILS" });
+    holds
+}
