@@ -1,48 +1,15 @@
--- The digests of messages that stand one after another: each is at its place, and the lanes' hash values make them. Assumes nothing.
-use mathlib.Core.Path.{_≡_, refl, sym, ap, ap₂, _∙_}
+-- The digests of messages that stand one after another: the lanes' hash values make them. Assumes nothing.
+use mathlib.Core.Path.{_≡_, refl, ap, ap₂, _∙_}
 use mathlib.Core.List.{List, [], _∷_, _++_, append-assoc, append-nil}
-use mathlib.Core.Logic.{⊎-elim}
 use Prim.Native.Nat.{ℕ, zero, suc, _+_, _*_, _/_, _%_, _^_, _≤_, _<_}
-use native.Mathlib.Nat.{eq-or-lt-of-le, le-of-suc-le-suc}
 use native.Mathlib.Numerals.{add-one}
 use native.Mathlib.Omega.{arith}
-use lib.ListN.{length, getD, take, drop, set, length-append, length-drop}
-use lib.Seq.{take-all, take-suc, take-suc-set, drop-at, take-append-le, drop-append-le}
+use lib.ListN.{length, getD, take, set, length-append}
+use lib.Seq.{take-suc, take-suc-set}
 use Rattle.sha256.specs.Sha256.{H₀, padding, padded, compress, hashed, digestBytes, digestFrom, sha256}
-use Rattle.sha256.proofs.Laws.{length-sha256}
 use Rattle.lanes.specs.Digests.{message, digests}
 use Rattle.lanes.specs.Flat.{laneBlock, hashOf, digestsOf}
 use Rattle.lanes.proofs.BlockLaws.{message-length, length-padding}
-
--- ---- for callers: the digests have 32 bytes each, and each is at its place
-
-pub length-digests : (messages : List ℕ) (n count : ℕ) → length (digests messages n count) ≡ 32 * count
-unfolding digests
-length-digests messages n zero = refl
-length-digests messages n (suc i) =
-    let m = message messages n i in
-    let before = length-digests messages n i in
-    let one = length-sha256 m in
-    let both = length-append (digests messages n i) (sha256 m) in
-    omega arith
-
-pub digest-at : (messages : List ℕ) (n count j : ℕ) → j < count → take 32 (drop (j * 32) (digests messages n count)) ≡ sha256 (message messages n j)
-unfolding digests
-digest-at messages n zero j h = absurd (omega arith)
-digest-at messages n (suc i) j h =
-    let before = digests messages n i in
-    let size = length-digests messages n i in
-    let next = sha256 (message messages n i) in
-    ⊎-elim
-    (λ (e : j ≡ i).
-    let place : length before ≡ j * 32 = omega arith in
-    ap (take 32) (drop-at before next (j * 32) place) ∙ take-all 32 next (omega (arith, length-sha256 (message messages n i)))
-    ∙ ap (λ (x : ℕ). sha256 (message messages n x)) (sym e))
-    (λ (l : j < i).
-    let rest : 32 ≤ length (drop (j * 32) before) = simp length-drop (omega arith) in
-    ap (take 32) (drop-append-le (j * 32) before next (omega arith)) ∙ take-append-le 32 (drop (j * 32) before) next rest
-    ∙ digest-at messages n i j l)
-    (eq-or-lt-of-le (le-of-suc-le-suc h))
 
 -- ---- the digests' bytes, as the code writes them
 

@@ -1,5 +1,5 @@
--- The laws that the functions' proofs cite, and what other crates may cite of the digests (DigestLaws).
+-- The laws that the functions' proofs cite.
 mod FlatLaws
 mod LaneLaws
 mod BlockLaws
-pub mod DigestLaws
+mod DigestLaws

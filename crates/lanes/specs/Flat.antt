@@ -3,7 +3,8 @@
 use mathlib.Core.Path.{_≡_}
 use mathlib.Core.List.{List, [], _∷_, _++_}
 use Prim.Native.Nat.{ℕ, zero, suc, _+_, _-_, _*_, _/_, _%_, _^_, _<_}
-use lib.ListN.{getD}
+use lib.Bits.{bitXor}
+use lib.ListN.{length, getD}
 use Rattle.sha256.specs.declared.block.Vars.{Vars}
 use Rattle.sha256.specs.Word.{_⊞_, σ₀, σ₁}
 use Rattle.sha256.specs.Sha256.{K, H₀, T₁, T₂, word, blockOf, padded, digestBytes}
@@ -53,6 +54,21 @@ temp₂ a j = T₂ (getD a (j + 24) 0) (getD a (j + 16) 0) (getD a (j + 8) 0)
 pub record Turned (constants words a e : List ℕ) (count : ℕ) : Type 0 where
   pub of-a : (j : ℕ) → j < count → getD a (j + 32) 0 ≡ temp₁ constants words e j ⊞ temp₂ a j
   pub of-e : (j : ℕ) → j < count → getD e (j + 32) 0 ≡ getD a j 0 ⊞ temp₁ constants words e j
+
+-- what differs between each word of a, from place 16 on, and the word of the round before it, at so many places
+abbrev pub Changed : (a changes : List ℕ) → (count : ℕ) → Type 0
+Changed a changes count = (j : ℕ) → j < count → getD changes (j + 16) 0 ≡ bitXor (getD a (j + 16) 0) (getD a (j + 8) 0)
+
+-- the rounds at so many places are done, from what a and e began with, a₀ and e₀: the first words are as they were, and the differences are
+-- there that the next round of each lane uses
+pub record Reached (constants words a₀ e₀ a e changes : List ℕ) (count : ℕ) : Type 0 where
+  pub size-a : length a ≡ 544
+  pub size-e : length e ≡ 544
+  pub size-changes : length changes ≡ 544
+  pub kept-a : Agree a₀ a 32
+  pub kept-e : Agree e₀ e 32
+  pub turned : Turned constants words a e count
+  pub changed : Changed a changes (count + 8)
 
 -- the working variables before the round at place j
 abbrev pub varsAt : (a e : List ℕ) → ℕ → Vars

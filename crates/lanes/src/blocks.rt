@@ -1,7 +1,6 @@
 // The words of a block of every lane: of its message, or of the padding after it (FIPS 180-4, 5.1.1 and 5.2.1).
 ghost use mathlib.Core.Path.{_≡_};
-ghost use mathlib.Core.List.{List};
-ghost use Prim.Native.Nat.{ℕ, _+_, _*_, _/_, _%_, _^_, _<_, _≤_};
+ghost use Prim.Native.Nat.{_+_, _*_, _/_, _%_, _^_, _<_, _≤_};
 ghost use lib.ListN.{length};
 ghost use Rattle.sha256.specs.Sha256 as Spec;
 ghost use Rattle.lanes.specs.Flat.{wordAt, Loaded, laneBlock};

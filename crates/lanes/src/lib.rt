@@ -28,13 +28,14 @@ pub fn digest_eight(messages: &[u8], n: usize) -> [u8; 256]
     let mut words = [0u32; 512];
     let mut a = [0u32; 544];
     let mut e = [0u32; 544];
+    let mut changes = [0u32; 544];
     start(&mut a, 3);
     start(&mut e, 7);
     let blocks = n / 64 + 1;
     let mut b = 0;
     while b < blocks {
         fill(messages, n, b, &mut words);
-        compress(&constants, &mut words, &mut a, &mut e);
+        compress(&constants, &mut words, &mut a, &mut e, &mut changes);
         b += 1;
     }
     digests_of(&a, &e)
