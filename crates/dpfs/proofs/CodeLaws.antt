@@ -20,7 +20,7 @@ use Rattle.dpfs.specs.Free.{FreeCopy, FreeIn, Free}
 use Rattle.dpfs.specs.Bits.{bitByte, bitPlace, flipBit, bitOf}
 use Rattle.dpfs.specs.Tree.{place, levelByte, select1, select2, select3}
 use Rattle.dpfs.specs.Staging.{begun, OffLive2, OffLive3, same, blockCopied, bitFlipped, moved, moved2, moved3alone, moved3, put}
-use Rattle.dpfs.specs.Rules.{WellPlaced, SpaceRules, Among, CopyRules, BlockRules, runLength}
+use Rattle.dpfs.specs.Rules.{WellPlaced, SpaceRules, Among, CopyRules, BlockRules, blockRest}
 use Rattle.dpfs.proofs.LevelLaws.{place-add, place-ends, place-inside, halves-apart, bit-inside1, bit-inside2, held1, held2, block-places, block-keeps}
 use Rattle.dpfs.proofs.RunLaws.{run-some, run-ends, run-room, run-further, run-block}
 use Rattle.dpfs.proofs.TreeLaws.{moved2-off, moved3-off3}
@@ -188,7 +188,7 @@ move3-is tree b j image next after ej en ea = ea ∙ ap (moved3alone tree b) (en
 -- ---- runs
 
 module _ (space : Space) (tree : Tree) (image : List ℕ) (r : SpaceRules space (length image)) (m : Among tree space) (x : ℕ) (values : List ℕ)
-    (some : 0 < length values) (room : length values ≤ runLength tree x (tree .level3 .size)) where
+    (some : 0 < length values) (room : length values ≤ blockRest tree x (tree .level3 .size)) where
   ends : x + length values ≤ tree .level3 .size
   ends = run-room tree x (tree .level3 .size) (length values) some room
 
@@ -262,17 +262,17 @@ put-end tree x i values image goal e eg =
 
 -- the run from i on, of values that go to x: where it ends, and that there is room for it
 module _ (tree : Tree) (x i : ℕ) (values : List ℕ) (end : ℕ) (h : i < length values) (fits : x + length values ≤ tree .level3 .size)
-    (e : end ≡ x + i + runLength tree (x + i) (x + length values)) where
+    (e : end ≡ x + i + blockRest tree (x + i) (x + length values)) where
   pub next-run : (x ≤ end) × (i < end - x) × (end - x ≤ length values)
   next-run =
-      let some : 0 < runLength tree (x + i) (x + length values) = run-some tree (x + i) (x + length values) (omega arith) in
-      let most : x + i + runLength tree (x + i) (x + length values) ≤ x + length values = run-ends tree (x + i) (x + length values) (omega arith) in
+      let some : 0 < blockRest tree (x + i) (x + length values) = run-some tree (x + i) (x + length values) (omega arith) in
+      let most : x + i + blockRest tree (x + i) (x + length values) ≤ x + length values = run-ends tree (x + i) (x + length values) (omega arith) in
       (omega arith, omega arith, omega arith)
 
-  pub run-part : (0 < length (take (end - x - i) (drop i values))) × (length (take (end - x - i) (drop i values)) ≤ runLength tree (x + i) (tree .level3 .size))
+  pub run-part : (0 < length (take (end - x - i) (drop i values))) × (length (take (end - x - i) (drop i values)) ≤ blockRest tree (x + i) (tree .level3 .size))
   run-part =
-      let some : 0 < runLength tree (x + i) (x + length values) = run-some tree (x + i) (x + length values) (omega arith) in
-      let most : x + i + runLength tree (x + i) (x + length values) ≤ x + length values = run-ends tree (x + i) (x + length values) (omega arith) in
+      let some : 0 < blockRest tree (x + i) (x + length values) = run-some tree (x + i) (x + length values) (omega arith) in
+      let most : x + i + blockRest tree (x + i) (x + length values) ≤ x + length values = run-ends tree (x + i) (x + length values) (omega arith) in
       let long : length (drop i values) ≡ length values - i = length-drop i values in
       let short : length (take (end - x - i) (drop i values)) ≡ end - x - i = length-take-le (end - x - i) (drop i values) (omega arith) in
       (omega arith, omega (arith, run-further tree (x + i) (x + length values) (tree .level3 .size) fits))

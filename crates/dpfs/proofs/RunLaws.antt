@@ -16,7 +16,7 @@ use Rattle.number.proofs.ListLaws.{length-part, getD-part, bytes-is, length-byt
 use Rattle.number.proofs.BlockLaws.{block-starts, block-ends, block-of-byte}
 use Rattle.dpfs.specs.declared.Tree.{Tree}
 use Rattle.dpfs.specs.Tree.{place, levelByte, select3, content}
-use Rattle.dpfs.specs.Rules.{WellPlaced, OneCopy, runLength}
+use Rattle.dpfs.specs.Rules.{WellPlaced, OneCopy, blockRest}
 
 -- ---- how long a run is
 
@@ -33,32 +33,32 @@ block-next l y b size p q = rw (p, q, add-one) (suc-mul (blockOf l y) (blockSize
 
 module _ (tree : Tree) (x end : ℕ) (h : x < end) where
   -- a run has a byte, ends where it is told to, and stays in its first byte's block
-  pub run-some : 0 < runLength tree x end
-  unfolding runLength
+  pub run-some : 0 < blockRest tree x end
+  unfolding blockRest
   run-some = omega (arith, block-ends (tree .level3) x)
 
-  pub run-ends : x + runLength tree x end ≤ end
-  unfolding runLength
+  pub run-ends : x + blockRest tree x end ≤ end
+  unfolding blockRest
   run-ends = omega arith
 
-  pub run-block : (k : ℕ) → k < runLength tree x end → blockOf (tree .level3) (x + k) ≡ blockOf (tree .level3) x
-  unfolding runLength
+  pub run-block : (k : ℕ) → k < blockRest tree x end → blockOf (tree .level3) (x + k) ≡ blockOf (tree .level3) x
+  unfolding blockRest
   run-block k l =
       block-of-byte (tree .level3) (blockOf (tree .level3) x) (x + k) (omega (arith, block-starts (tree .level3) x)) (omega arith)
 
 -- bytes that a run has room for
-pub run-room : (tree : Tree) (x end n : ℕ) → 0 < n → n ≤ runLength tree x end → x + n ≤ end
-unfolding runLength
+pub run-room : (tree : Tree) (x end n : ℕ) → 0 < n → n ≤ blockRest tree x end → x + n ≤ end
+unfolding blockRest
 run-room tree x end n some h = omega arith
 
 -- a run does not get shorter where it may go further
-pub run-further : (tree : Tree) (x end limit : ℕ) → end ≤ limit → runLength tree x end ≤ runLength tree x limit
-unfolding runLength
+pub run-further : (tree : Tree) (x end limit : ℕ) → end ≤ limit → blockRest tree x end ≤ blockRest tree x limit
+unfolding blockRest
 run-further tree x end limit h = omega arith
 
 pub run-end-is : (tree : Tree) (x end next : ℕ) → x ≤ end → next ≡ blockOf (tree .level3) x * blockSize (tree .level3) + blockSize (tree .level3)
-    → min end next ≡ x + runLength tree x end
-unfolding runLength
+    → min end next ≡ x + blockRest tree x end
+unfolding blockRest
 run-end-is tree x end next h e = omega (arith, block-ends (tree .level3) x)
 
 -- ---- what it reads
@@ -121,7 +121,7 @@ run-is tree image half second x end to r w some most fits one e =
 
 -- x's block
 pub one-block : (tree : Tree) (image : List ℕ) (half second : Bool) (x end to : ℕ) → x < end → second ≡ select3 tree image half (blockOf (tree .level3) x)
-    → to ≡ x + runLength tree x end → (x < to) × (to ≤ end) × OneCopy tree image half second x to
+    → to ≡ x + blockRest tree x end → (x < to) × (to ≤ end) × OneCopy tree image half second x to
 one-block tree image half second x end to h e t = (
   omega (arith, run-some tree x end h),
   omega (arith, run-ends tree x end h),

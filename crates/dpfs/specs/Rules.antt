@@ -86,8 +86,8 @@ pub record BlockRules (space : Space) (image : List ℕ) (l : Level) (second : B
   pub free : (y : ℕ) → y < l .size → blockOf l y ≡ b → Free space image (place l (not second) y)
 
 -- how many bytes of level 3 from x on lie in x's block, up to `end`
-unfoldable pub runLength : Tree → (x end : ℕ) → ℕ
-runLength tree x end = min (end - x) (blockOf (tree .level3) x * blockSize (tree .level3) + blockSize (tree .level3) - x)
+unfoldable pub blockRest : Tree → (x end : ℕ) → ℕ
+blockRest tree x end = min (end - x) (blockOf (tree .level3) x * blockSize (tree .level3) + blockSize (tree .level3) - x)
 
 -- the bytes of level 3 from x up to `end` stand in one piece of the image: their blocks are all read in the same copy
 abbrev pub OneCopy : Tree → List ℕ → (half second : Bool) → (x end : ℕ) → Type 0

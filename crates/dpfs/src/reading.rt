@@ -11,7 +11,7 @@ ghost use lib.ListN.{length, take, drop};
 ghost use Rattle.number.specs.Bytes.{bytes};
 ghost use Rattle.number.specs.Blocks.{blockOf};
 ghost use Rattle.dpfs.specs.Tree.{select3, content};
-ghost use Rattle.dpfs.specs.Rules.{WellPlaced, OneCopy, runLength};
+ghost use Rattle.dpfs.specs.Rules.{WellPlaced, OneCopy, blockRest};
 
 // The live copy of a block is handed back as a part of whichever of two lent halves the bit names.
 pub fn live_part<'a>(
@@ -33,7 +33,7 @@ pub fn live_part<'a>(
 // Where the bytes of level 3 from x on end that lie in x's block, and come before end.
 pub fn block_end(tree: Tree, x: u64, end: u64) -> u64
     requires { ⌜ (x ≤ end) × (end ≤ tree .level3 .size) × (tree .level3 .log ≤ 16) × (tree .level3 .size ≤ 0x4000000) ⌝ }
-    ensures { λ r. ⌜ r ≡ x + runLength tree x end ⌝ }
+    ensures { λ r. ⌜ r ≡ x + blockRest tree x end ⌝ }
 {
     let l = tree.level3;
     lesser(end, (block_of(l, x) + 1) * block_size(l))

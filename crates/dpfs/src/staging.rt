@@ -22,7 +22,7 @@ ghost use Rattle.number.specs.Bytes.{copied};
 ghost use Rattle.dpfs.specs.Bits.{bitByte, bitPlace, flipBit};
 ghost use Rattle.dpfs.specs.Free.{Free};
 ghost use Rattle.dpfs.specs.Staging.{OffLive2, same, blockCopied, moved2, moved3alone, moved3, put, begun};
-ghost use Rattle.dpfs.specs.Rules.{SpaceRules, Among, CopyRules, BlockRules, runLength};
+ghost use Rattle.dpfs.specs.Rules.{SpaceRules, Among, CopyRules, BlockRules, blockRest};
 
 // The one store to an image before a commit: at a free place.
 pub fn store(space: Space, image: &mut [u8], i: u64, value: u8)
@@ -142,7 +142,7 @@ fn move3(space: Space, tree: Tree, image: &mut [u8], b: u64)
 
 // Puts bytes that lie in one block: one move, then plain stores.
 fn put_run(space: Space, tree: Tree, image: &mut [u8], x: u64, values: &[u8])
-    requires { ⌜ (SpaceRules space (length (now image))) × (Among tree space) × (0 < length (now values)) × (length (now values) ≤ runLength tree x (tree .level3 .size)) ⌝ }
+    requires { ⌜ (SpaceRules space (length (now image))) × (Among tree space) × (0 < length (now values)) × (length (now values) ≤ blockRest tree x (tree .level3 .size)) ⌝ }
     ensures { λ _. ⌜ now (image .exit) ≡ put tree x (now (values .entry)) (now (image .entry)) ⌝ }
 {
     let l = tree.level3;

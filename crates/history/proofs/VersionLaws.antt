@@ -13,7 +13,7 @@ use borrow.Author.Tests.{lt-ltb, le-ltb, leb-true, ltb-true, ne-eqb}
 use Rattle.number.specs.declared.Level.{Level}
 use Rattle.number.specs.Blocks.{blocks, blockOf, lastBlock, touches}
 use Rattle.number.specs.Bytes.{bytes}
-use Rattle.number.proofs.ListLaws.{length-part, getD-part, length-bytes, getD-bytes, bytes-is}
+use Rattle.number.proofs.ListLaws.{length-bytes, bytes-inner}
 use Rattle.number.proofs.BlockLaws.{block-mono, block-exists, touches-in, touches-is}
 use Rattle.layout.specs.declared.Refusal.the-variants.{OutOfRange, Unverified}
 use Rattle.ivfc.specs.declared.View.{View}
@@ -138,10 +138,8 @@ lowest-touched P l place (suc n) h =
 
 slice-bytes : (f : ℕ → ℕ) (size place n : ℕ) → place + n ≤ size → take n (drop place (bytes f 0 size)) ≡ bytes f place n
 slice-bytes f size place n h =
-    let e : length (bytes f 0 size) ≡ size = length-bytes f 0 size in
-    sym (bytes-is f place n (take n (drop place (bytes f 0 size))) (length-part (bytes f 0 size) place n (omega arith))
-    (λ k l. let z : 0 + (place + k) ≡ place + k = omega arith in
-    sym (getD-part (bytes f 0 size) place n k l ∙ getD-bytes f 0 size (place + k) (omega arith) ∙ ap f z)))
+    let z : 0 + place ≡ place = omega arith in
+    bytes-inner f 0 size place n h ∙ ap (λ (x : ℕ). bytes f x n) z
 
 -- an outcome and its buffer, by the check for 9 and the block that is found
 by-block : (t : Bool) (b : ℕ) (content buffer : List ℕ)

@@ -14,7 +14,7 @@ use borrow.Author.Tests.{leb-true}
 use Rattle.number.specs.declared.Level.{Level}
 use Rattle.number.specs.Blocks.{blockSize, blocks, blockLength}
 use Rattle.number.specs.Bytes.{bytes}
-use Rattle.number.proofs.ListLaws.{length-bytes, bytes-append}
+use Rattle.number.proofs.ListLaws.{bytes-inner}
 use Rattle.number.proofs.BlockLaws.{size-pos, exists-byte}
 use Rattle.number.proofs.Tests.{and-left, and-right}
 use Rattle.dpfs.proofs.RunLaws.{size-small}
@@ -28,17 +28,6 @@ use Rattle.ivfc.specs.Rules.{TreeRules}
 use Rattle.ivfc.proofs.VerifiedLaws.{matches-is, entry-above}
 use Rattle.ivfc.proofs.LowestLaws.{first-cong, count-cong}
 use Rattle.ivfc.proofs.RowLaws.{first-shift}
-
--- a part of a run of bytes is a run
-pub bytes-inner : (f : ℕ → ℕ) (x n k m : ℕ) → k + m ≤ n → take m (drop k (bytes f x n)) ≡ bytes f (x + k) m
-bytes-inner f x n k m h =
-    let e : n ≡ k + (m + (n - (k + m))) = omega arith in
-    let r : ℕ = n - (k + m) in
-    ap (λ (y : ℕ). take m (drop k (bytes f x y))) e
-    ∙ ap (λ (l : List ℕ). take m (drop k l)) (bytes-append f x k (m + r))
-    ∙ ap (take m) (drop-at (bytes f x k) (bytes f (x + k) (m + r)) k (length-bytes f x k))
-    ∙ ap (take m) (bytes-append f (x + k) m r)
-    ∙ take-at (bytes f (x + k) m) (bytes f (x + k + m) r) m (length-bytes f (x + k) m)
 
 -- ---- each digest, and each entry, in its place
 

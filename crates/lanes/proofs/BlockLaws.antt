@@ -6,8 +6,9 @@ use native.Mathlib.Nat.{mul-le-mul-right}
 use native.Mathlib.Omega.{arith}
 use lib.ListN.{length, getD, take, drop, set, replicate, length-drop, length-replicate, getD-replicate, List·getD-append}
 use lib.Pow.{mod-pow-add, recompose}
-use lib.Seq.{take-all, take-append-le, drop-append-le, drop-at, getD-take, getD-drop, length-take-le}
+use lib.Seq.{take-all, drop-at, getD-take, getD-drop, length-take-le}
 use Rattle.sha256.specs.Sha256.{word, blockOf, zeros, bytes64, padding, padded}
+use Rattle.sha256.proofs.Padding.{block-front}
 use Rattle.lanes.specs.Digests.{message}
 use Rattle.lanes.specs.Flat.{wordAt, Loaded, laneBlock}
 use Rattle.lanes.proofs.FlatLaws.{filled-more}
@@ -25,13 +26,6 @@ message-length messages n l e h =
     let within = lane-within n l h in
     length-take-le n (drop (l * n) messages) (simp length-drop (omega arith))
 
--- a block of the message is a block of the padded message
-whole-block : (m p : List ℕ) (b : ℕ) → b * 64 + 64 ≤ length m → blockOf (m ++ p) b ≡ blockOf m b
-whole-block m p b h =
-    let d : drop (b * 64) (m ++ p) ≡ drop (b * 64) m ++ p = drop-append-le (b * 64) m p (omega arith) in
-    let l : 64 ≤ length (drop (b * 64) m) = simp length-drop (omega arith) in
-    ap (take 64) d ∙ take-append-le 64 (drop (b * 64) m) p l
-
 byte-of-lane : (messages : List ℕ) (n b l k at : ℕ) → k < 64 → b * 64 + 64 ≤ n → at ≡ l * n + (b * 64 + k)
     → getD (blockOf (message messages n l) b) k 0 ≡ getD messages at 0
 byte-of-lane messages n b l k at hk h e =
@@ -46,7 +40,7 @@ lane-word messages n b l row at e hb hl hr p =
     let m = message messages n l in
     let whole : b * 64 + 64 ≤ n = omega arith in
     let size : length m ≡ n = message-length messages n l e hl in
-    let block : blockOf (padded m) b ≡ blockOf m b = whole-block m (padding (length m)) b (omega arith) in
+    let block : blockOf (padded m) b ≡ blockOf m b = block-front m (padding (length m)) b (omega arith) in
     let b₀ = byte-of-lane messages n b l (row * 4) at (omega arith) whole (omega arith) in
     let b₁ = byte-of-lane messages n b l (row * 4 + 1) (at + 1) (omega arith) whole (omega arith) in
     let b₂ = byte-of-lane messages n b l (row * 4 + 2) (at + 2) (omega arith) whole (omega arith) in

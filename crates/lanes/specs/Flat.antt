@@ -1,5 +1,5 @@
 -- Eight lanes side by side: item t of lane l stands at place t * 8 + l of a flat list. The rules of the loops speak of one place and of no
--- lane, so that they are the same at every place.
+-- lane, so that they are the same at every place. These are no part of the standard: the contracts of the loops cite them.
 use mathlib.Core.Path.{_≡_}
 use mathlib.Core.List.{List, [], _∷_, _++_}
 use Prim.Native.Nat.{ℕ, zero, suc, _+_, _-_, _*_, _/_, _%_, _^_, _<_}

@@ -8,7 +8,7 @@ use native.Mathlib.Nat.{add-zero}
 use native.Mathlib.Numerals.{add-one}
 use native.Mathlib.Decide.{ℕ-discrete, decLt}
 use lib.ListN.{length, getD, take, drop, set, length-set, length-take, length-drop, drop-of-length-le}
-use lib.Seq.{ext-getD, getD-take, getD-drop, getD-set-same, getD-set-other, sets, length-sets, drop-cons, drop-length, take-nil, take-all}
+use lib.Seq.{ext-getD, getD-take, getD-drop, getD-set-same, getD-set-other, sets, length-sets, drop-cons, drop-length, drop-at, take-at, take-nil, take-all}
 use lib.Dec.{eqb}
 use mathlib.Core.Bool.{Bool, true, false, _&&_, true≢false}
 use borrow.Author.Tests.{eq-eqb, ne-eqb, eqb-true}
@@ -98,6 +98,17 @@ bytes-append f x (suc m) n =
     let e : suc m + n ≡ suc (m + n) = omega arith in
     let d : suc x + m ≡ x + suc m = omega arith in
     rw (e, ← d) (ap (λ (l : List ℕ). f x ∷ l) (bytes-append f (suc x) m n))
+
+-- a part of a run of bytes is a run
+pub bytes-inner : (f : ℕ → ℕ) (x n k m : ℕ) → k + m ≤ n → take m (drop k (bytes f x n)) ≡ bytes f (x + k) m
+bytes-inner f x n k m h =
+    let e : n ≡ k + (m + (n - (k + m))) = omega arith in
+    let r : ℕ = n - (k + m) in
+    ap (λ (y : ℕ). take m (drop k (bytes f x y))) e
+    ∙ ap (λ (l : List ℕ). take m (drop k l)) (bytes-append f x k (m + r))
+    ∙ ap (take m) (drop-at (bytes f x k) (bytes f (x + k) (m + r)) k (length-bytes f x k))
+    ∙ ap (take m) (bytes-append f (x + k) m r)
+    ∙ take-at (bytes f (x + k) m) (bytes f (x + k + m) r) m (length-bytes f (x + k) m)
 
 -- a part of a list is the run of its elements
 pub bytes-part : (s : List ℕ) (at size : ℕ) → at + size ≤ length s → bytes (λ (y : ℕ). getD s y 0) at size ≡ take size (drop at s)

@@ -2,9 +2,9 @@
 use Prim.Native.Nat.{ℕ, zero, suc, _+_, _-_, _≤_, _<_}
 use mathlib.Core.Bool.{Bool, true, false}
 use mathlib.Core.List.{List}
-use mathlib.Core.Path.{_≡_, refl, sym, ap, subst, _∙_}
+use mathlib.Core.Path.{_≡_, refl, sym, ap, _∙_}
 use native.Mathlib.Omega.{arith}
-use lib.Dec.{leb}
+use lib.Dec.{leb, ltb}
 use lib.ListN.{length}
 use borrow.Author.Tests.{ne-eqb, eq-eqb, lt-ltb, le-ltb, leb-true}
 use Rattle.number.specs.declared.Level.{Level}
@@ -18,7 +18,7 @@ use Rattle.ivfc.specs.declared.View.{View}
 use Rattle.ivfc.specs.Views.{levelOf, contentOf, verified}
 use Rattle.ivfc.specs.Verified.{firstNot}
 use Rattle.ivfc.specs.Rules.{ViewRules}
-use Rattle.ivfc.proofs.LowestLaws.{Lowest, first-lowest}
+use Rattle.ivfc.proofs.RowLaws.{first-alone}
 use Rattle.steps.specs.declared.Outcome.{Outcome}
 use Rattle.steps.specs.declared.Outcome.the-variants as outcome
 use Rattle.steps.specs.declared.Verdict.the-variants as verdict
@@ -180,15 +180,13 @@ module _ (view : View) (image : List ℕ) (b count : ℕ) (n : count ≡ blocks 
   unfolding verdictOn
   block-said h t e = rw (lt-ltb b (blocks (view .level4)) (omega arith), e)
 
-  -- of one block, the first that is not verified is this one or the next
+  -- of one block: it is verified exactly if the first that is not comes after it
   module _ (h : b < count) (r : ℕ) (found : r ≡ firstNot (verified view image 4) b (suc b - b)) where
-    lowest : Lowest (verified view image 4) b b r
-    lowest = subst (Lowest (verified view image 4) b b) (sym found) (first-lowest (verified view image 4) b b (omega arith))
+    after : ltb b r ≡ verified view image 4 b
+    after = first-alone (verified view image 4) b (suc b - b) r (omega arith) found
 
     pub block-good : b < r → verdict.Verified ≡ verdictOn view image b
-    block-good l = block-said h true (lowest .before b (omega arith) l)
+    block-good l = block-said h true (sym after ∙ lt-ltb b r l)
 
     pub block-bad : r ≤ b → verdict.Unproven ≡ verdictOn view image b
-    block-bad l =
-        let e : r ≡ b = omega (arith, lowest .from) in
-        block-said h false (ap (verified view image 4) (sym e) ∙ lowest .here l)
+    block-bad l = block-said h false (sym after ∙ le-ltb b r l)
