@@ -44,7 +44,9 @@ add-count c =
     let a = c .before .before .before .before .before .args in
     let l = c .before .before .before .loop in
     let r = c .before .compare-from in
-    record { fits = omega (arith, more c, count-le (λ (j : ℕ). matches (a .view) (a .image .now) (a .i) (a .first + j)) (l .b + r .result .hashed - a .first), r .ensures .0 .1) }
+    let before = count-le (λ (j : ℕ). matches (a .view) (a .image .now) (a .i) (a .first + j)) (l .b - a .first) in
+    let row = count-le (λ (j : ℕ). matches (a .view) (a .image .now) (a .i) (l .b + j)) (r .result .hashed) in
+    record { fits = omega (arith, l .inv .2, before, r .ensures .0 .1, r .ensures .1, row) }
 
 add-b : tie.Need-add-b Inv-loop μ-loop
 add-b c = record { fits = omega (arith, c .before .before .compare-from .ensures .0 .1) }

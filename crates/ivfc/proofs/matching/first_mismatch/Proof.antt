@@ -5,7 +5,7 @@ use mathlib.Core.Path.{_≡_, refl, sym, _∙_}
 use native.Mathlib.Omega.{arith}
 use Rattle.ivfc.specs.Verified.{firstNot}
 use Rattle.ivfc.specs.Views.{matches}
-use Rattle.ivfc.proofs.RowLaws.{row-passed, row-stops, first-none}
+use Rattle.ivfc.proofs.RowLaws.{first-to, row-passed, row-stops, first-none}
 use Rattle.ivfc.proofs.matching.first_mismatch.Statement.{statement}
 use Rattle.ivfc.proofs.matching.first_mismatch.Tie as tie
 
@@ -25,7 +25,11 @@ compare-from-requires c κs =
     (s .pre .0, s .pre .1, s .pre .2, c .loop-test .taken, s .pre .4)
 
 add-result : tie.Need-add-result Inv-loop μ-loop
-add-result c = record { fits = omega (arith, c .before .before .before .compare-from .ensures .0 .1) }
+add-result c =
+    let a = c .before .before .before .before .before .before .before .args in
+    let l = c .before .before .before .before .before .loop in
+    let r = c .before .before .before .compare-from in
+    record { fits = omega (arith, r .ensures .0 .1, r .ensures .0 .2, first-to (matches (a .view) (a .image .now) (a .i)) (l .b) (r .result .hashed)) }
 
 returns : tie.Need-returns Inv-loop μ-loop
 returns c =
