@@ -1,6 +1,5 @@
--- Laws of bits: which byte holds one, that it is the word's bit that 01 names, and what a flip changes. Assumes nothing.
+-- Laws of bits: which byte of its word holds one, and what a flip changes. Assumes nothing.
 use mathlib.Core.Path.{_≡_, refl, sym, ap, _∙_}
-use mathlib.Core.List.{List}
 use mathlib.Core.Bool.{not}
 use mathlib.Core.Logic.{_≢_}
 use Prim.Native.Nat.{ℕ, zero, suc, _+_, _-_, _*_, _/_, _%_, _^_, _≤_, _<_}
@@ -10,11 +9,9 @@ use native.Mathlib.Decide.{decLt}
 use lib.Dec.{eqb}
 use lib.Pow.{pow-lt, pow-add, pow-pos, shl-shr, shl-exact, shr-shr}
 use lib.Bits.{bitXor, xor-shr, xor-mod, xor-zero-r}
-use lib.ListN.{getD}
-use Rattle.number.specs.Fields.{le16, le32}
 use Rattle.number.specs.declared.Level.{Level}
 use Rattle.number.specs.Blocks.{blockSize, blockOf}
-use Rattle.dpfs.specs.Bits.{bitByte, bitPlace, testBit, flipBit, bitOf}
+use Rattle.dpfs.specs.Bits.{bitByte, bitPlace, testBit, flipBit, wordOf, bitOf}
 
 -- ---- places
 
@@ -91,17 +88,25 @@ word-byte a b c d ha hb hc (suc (suc (suc zero))) p h k v e0 e1 e2 e3 =
     ap (λ (x : ℕ). testBit x p) e0 ∙ byte-bit _ 0 a (b + 0x100 * (c + 0x100 * d)) p k (omega arith)
 word-byte a b c d ha hb hc (suc (suc (suc (suc q)))) p h k v e0 e1 e2 e3 = absurd (omega arith)
 
-pub word-bit : (half : List ℕ) (n : ℕ) → ((i : ℕ) → getD half i 0 < 0x100)
-    → bitOf (λ (y : ℕ). getD half y 0) n ≡ testBit (le32 half (4 * (n / 32))) (31 - n % 32)
-unfolding bitOf bitByte bitPlace le32 le16
-word-bit half n small =
+-- a number and its low byte have the same bits at the places of a byte
+low-byte : (x p : ℕ) → p < 8 → testBit (x % 0x100) p ≡ testBit x p
+unfolding testBit
+low-byte x p h =
+    let e : x % 0x100 + 0x100 * (x / 0x100) ≡ x = omega arith in
+    ap (λ (v : ℕ). eqb v 1) (sym (low-bit (x % 0x100) (x / 0x100) p h) ∙ ap (λ (v : ℕ). v / 2 ^ p % 2) e)
+
+-- bit n of a half is a bit of one byte
+pub bit-in-byte : (f : ℕ → ℕ) (n : ℕ) → bitOf f n ≡ testBit (f (bitByte n)) (bitPlace n)
+unfolding bitOf wordOf bitByte bitPlace
+bit-in-byte f n =
     let w = 4 * (n / 32) in
+    let byte : ℕ → ℕ = λ i. f (w + i) % 0x100 in
     let e : 31 - n % 32 ≡ 8 * (3 - n % 32 / 8) + (7 - n % 8) = omega arith in
-    let next : w + 2 + 1 ≡ w + 3 = omega arith in
-    word-byte (getD half w 0) (getD half (w + 1) 0) (getD half (w + 2) 0) (getD half (w + 2 + 1) 0) (small _) (small _) (small _)
-    (n % 32 / 8) (7 - n % 8) (omega arith) (omega arith) (λ (i : ℕ). getD half (w + i) 0) (ap (λ (i : ℕ). getD half i 0) (add-zero w)) refl refl
-    (ap (λ (i : ℕ). getD half i 0) (sym next))
-    ∙ ap (testBit _) (sym e)
+    let small : (x : ℕ) → x % 0x100 < 0x100 = λ x. mod-lt x (omega arith) in
+    ap (testBit _) e
+    ∙ sym (word-byte (f w % 0x100) (byte 1) (byte 2) (byte 3) (small _) (small _) (small _)
+    (n % 32 / 8) (7 - n % 8) (omega arith) (omega arith) byte (ap (λ (i : ℕ). f i % 0x100) (add-zero w)) refl refl refl)
+    ∙ low-byte (f (w + (3 - n % 32 / 8))) (7 - n % 8) (omega arith)
 
 -- ---- a flipped bit
 
@@ -148,5 +153,4 @@ unfolding flipBit bitPlace
 flip-code value n = ap (bitXor value) (shl-exact 1 (7 - n % 8) 8 (omega arith) (omega arith) ∙ one-mul (2 ^ (7 - n % 8)))
 
 pub bit-same : (f g : ℕ → ℕ) (n : ℕ) → f (bitByte n) ≡ g (bitByte n) → bitOf f n ≡ bitOf g n
-unfolding bitOf
-bit-same f g n e = ap (λ (v : ℕ). testBit v (bitPlace n)) e
+bit-same f g n e = bit-in-byte f n ∙ ap (λ (v : ℕ). testBit v (bitPlace n)) e ∙ sym (bit-in-byte g n)

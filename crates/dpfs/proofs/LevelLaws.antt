@@ -21,7 +21,7 @@ use Rattle.dpfs.specs.Tree.{place, levelByte}
 use Rattle.dpfs.specs.Free.{FreeCopy}
 use Rattle.dpfs.specs.Staging.{blockCopied, bitFlipped}
 use Rattle.dpfs.specs.Rules.{Disjoint, WellPlaced}
-use Rattle.dpfs.proofs.BitLaws.{byte-inside, places-differ, flip-same, flip-other}
+use Rattle.dpfs.proofs.BitLaws.{byte-inside, places-differ, bit-in-byte, flip-same, flip-other}
 
 -- ---- places
 
@@ -208,14 +208,15 @@ module _ (l : Level) (selection : ℕ → Bool) (n : ℕ) (image : List ℕ) (fi
       (λ e. ne (place-inj l (selection (blockOf l y)) (selection (blockOf l (bitByte n))) y (bitByte n) k h e .1))
 
   pub flip-own : bitOf (levelByte l selection (bitFlipped l selection n image)) n ≡ not (bitOf (levelByte l selection image) n)
-  unfolding bitOf
-  flip-own = ap (λ (v : ℕ). testBit v (bitPlace n)) flip-byte ∙ flip-same (levelByte l selection image (bitByte n)) (bitPlace n)
+  flip-own =
+      bit-in-byte _ n ∙ ap (λ (v : ℕ). testBit v (bitPlace n)) flip-byte ∙ flip-same (levelByte l selection image (bitByte n)) (bitPlace n)
+      ∙ ap not (sym (bit-in-byte _ n))
 
   pub flip-others : (k : ℕ) → k ≢ n → bitByte k < l .size → bitOf (levelByte l selection (bitFlipped l selection n image)) k ≡ bitOf (levelByte l selection image) k
-  unfolding bitOf
-  flip-others k ne hk = go (ℕ-discrete (bitByte k) (bitByte n))
+  flip-others k ne hk = bit-in-byte _ k ∙ go (ℕ-discrete (bitByte k) (bitByte n)) ∙ sym (bit-in-byte _ k)
     where
-      go : Dec (bitByte k ≡ bitByte n) → bitOf (levelByte l selection (bitFlipped l selection n image)) k ≡ bitOf (levelByte l selection image) k
+      go : Dec (bitByte k ≡ bitByte n)
+          → testBit (levelByte l selection (bitFlipped l selection n image) (bitByte k)) (bitPlace k) ≡ testBit (levelByte l selection image (bitByte k)) (bitPlace k)
       go (yes e) =
           ap (λ (y : ℕ). testBit (levelByte l selection (bitFlipped l selection n image) y) (bitPlace k)) e
           ∙ ap (λ (v : ℕ). testBit v (bitPlace k)) flip-byte

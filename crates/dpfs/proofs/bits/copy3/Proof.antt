@@ -1,12 +1,13 @@
 -- The bit read at the place of its byte is the selection of level 3. Assumes nothing.
 use Rattle.number.specs.Blocks.{blockOf}
 use Rattle.dpfs.proofs.LevelLaws.{place-inside}
+use Rattle.dpfs.proofs.BitLaws.{bit-in-byte}
 use Rattle.dpfs.specs.Tree.{levelByte, select2, select3}
-use Rattle.dpfs.specs.Bits.{bitByte, bitPlace, testBit, bitOf}
+use Rattle.dpfs.specs.Bits.{bitByte, bitPlace, testBit}
 use lib.ListN.{length, getD}
 use native.Mathlib.Omega.{arith}
 use Prim.Native.Nat.{ℕ}
-use mathlib.Core.Path.{ap, _∙_}
+use mathlib.Core.Path.{sym, ap, _∙_}
 use borrow.Author.Needs.{needs}
 use Rattle.dpfs.proofs.bits.copy3.Statement.{statement}
 use Rattle.dpfs.proofs.bits.copy3.Tie as tie
@@ -25,10 +26,11 @@ bit-at-requires c κs =
     )
 
 returns : tie.Need-returns
-unfolding select3 bitOf levelByte
+unfolding select3 levelByte
 returns c =
     let s = c .before .before .before in
     c .bit-at .ensures ∙ ap (λ (i : ℕ). testBit (getD (s .args .image .now) i 0) (bitPlace (s .args .k))) (c .before .bit-place .ensures)
+    ∙ sym (bit-in-byte _ (s .args .k))
 
 pub copy3-spec : {M : Type 1} → statement M
 copy3-spec = tie.close (tie.spec bit-place-requires bit-at-requires returns)
