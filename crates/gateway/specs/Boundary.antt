@@ -47,8 +47,8 @@ outcomeAnswer (outcome.Refused r) = refusedAnswer r
 
 -- 1 for yes, 0 for no
 abbrev pub verdictAnswer : Verdict → ℕ
-verdictAnswer verdict.Verified = packed 0 1
-verdictAnswer verdict.Unproven = packed 0 0
+verdictAnswer verdict.Yes = packed 0 1
+verdictAnswer verdict.No = packed 0 0
 verdictAnswer (verdict.Refused r) = refusedAnswer r
 
 abbrev pub countAnswer : Count → ℕ

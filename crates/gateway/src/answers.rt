@@ -35,8 +35,8 @@ pub fn verdict_answer(verdict: Verdict) -> u64
     ensures { λ r. ⌜ r ≡ verdictAnswer verdict ⌝ }
 {
     match verdict {
-        Verdict::Verified => pack(0, 1),
-        Verdict::Unproven => pack(0, 0),
+        Verdict::Yes => pack(0, 1),
+        Verdict::No => pack(0, 0),
         Verdict::Refused(refusal) => refused_answer(refusal),
     }
 }

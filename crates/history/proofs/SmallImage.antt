@@ -22,7 +22,7 @@ use Rattle.layout.specs.Tables.{active, tableMatches}
 use Rattle.layout.specs.Descriptors.{difiFields, ivfcFields, dpfsFields, partitionFields, sizeAllowed, levelAllowed, difiAllowed, ivfcAllowed, dpfsAllowed, formAllowed, piecesPlaced, levelsPlaced, enoughBits, enoughEntries, allEnough, placesAllowed, judgedPartition}
 use Rattle.layout.specs.Opening.{lengthAllowed, opened}
 use Rattle.layout.proofs.GuaranteeLaws.{opens}
-use Rattle.dpfs.specs.Bits.{bitByte, bitPlace, testBit, bitOf}
+use Rattle.dpfs.specs.Bits.{bitByte, bitPlace, testBit, wordOf, bitOf}
 use Rattle.dpfs.specs.Tree.{place, levelByte, select1, select2, select3, content}
 use Rattle.ivfc.specs.Blocks.{block, entry, parent}
 use Rattle.ivfc.specs.Verified.{vouches, matches, verified}
@@ -128,5 +128,5 @@ small-opens = opens smallImage smallContainer (record {
 
 -- the one block of level 4 is verified in the committed view
 pub small-verified : verified (levelOf (committedView smallContainer 0)) (contentOf (committedView smallContainer 0) smallImage) 4 0 ≡ true
-unfolding smallContainer smallImage table header tableHash master level1 level2 level3 part sameBytes diffHeader le64 le32 le16 active partitionFields difiFields ivfcFields dpfsFields slotOf partitionOf treeIn masterIn viewIn committedView levelOf innerByte contentOf place levelByte select1 select2 select3 content bitByte bitPlace testBit bitOf blockSize blockOf blockLength bytes block entry parent vouches matches verified K words next extend schedule T₁ T₂ round rounds added compress bytes64 padding padded hashed digestBytes digestFrom sha256
+unfolding smallContainer smallImage table header tableHash master level1 level2 level3 part sameBytes diffHeader le64 le32 le16 active partitionFields difiFields ivfcFields dpfsFields slotOf partitionOf treeIn masterIn viewIn committedView levelOf innerByte contentOf place levelByte select1 select2 select3 content bitByte bitPlace testBit wordOf bitOf blockSize blockOf blockLength bytes block entry parent vouches matches verified K words next extend schedule T₁ T₂ round rounds added compress bytes64 padding padded hashed digestBytes digestFrom sha256
 small-verified = refl

@@ -92,8 +92,8 @@ abbrev pub ruling : Answer → Ruling
 ruling (Opening (opening.Valid c)) = Accepted
 ruling (Opening (opening.Refused r)) = Refused
 ruling (Reading read) = rulingOf (read .outcome)
-ruling (Judging verdict.Verified) = Accepted
-ruling (Judging verdict.Unproven) = Accepted
+ruling (Judging verdict.Yes) = Accepted
+ruling (Judging verdict.No) = Accepted
 ruling (Judging (verdict.Refused r)) = Refused
 ruling (Counting (count.Blocks n)) = Accepted
 ruling (Counting (count.Refused r)) = Refused

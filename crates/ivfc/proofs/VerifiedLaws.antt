@@ -77,6 +77,19 @@ module _ (levels : ℕ → Level) (content : ℕ → ℕ → ℕ) where
       let e : suc i - 1 ≡ i = omega arith in
       rw e refl
 
+  -- of the master hash all is verified
+  pub verified-master : (i b : ℕ) → i ≡ 0 → true ≡ verified levels content i b
+  unfolding verified
+  verified-master i b e = rw e refl
+
+  -- from the answer for the entry
+  pub verified-unmatched : (i b : ℕ) → 1 ≤ i → matches levels content i b ≡ false → false ≡ verified levels content i b
+  verified-unmatched i b h e = sym (rw e at (verified-step i b h))
+
+  pub verified-matched : (i b : ℕ) (r : Bool) → 1 ≤ i → matches levels content i b ≡ true
+      → r ≡ verified levels content (i - 1) (parent (levels (i - 1)) b) → r ≡ verified levels content i b
+  verified-matched i b r h e above = above ∙ sym (rw e at (verified-step i b h))
+
   -- from the answer for the block that holds the entry
   pub verified-below : (i b : ℕ) (r : Bool) → 1 ≤ i → verified levels content (i - 1) (parent (levels (i - 1)) b) ≡ true
       → r ≡ matches levels content i b → r ≡ verified levels content i b

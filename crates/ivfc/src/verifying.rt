@@ -5,6 +5,7 @@ use super::Memory;
 use super::Seen;
 use super::View;
 use super::gathering::level_of;
+use super::matching::block_matches;
 use super::matching::count_matching;
 use super::matching::first_mismatch;
 use number::Level;
@@ -39,6 +40,22 @@ pub fn first_under(level: Level, first: u64, last: u64, p: u64) -> u64
     ensures { λ r. ⌜ r ≡ min (suc last) (max first (child level p)) ⌝ }
 {
     lesser(last + 1, greater(first, p * block_size(level) / ENTRY))
+}
+
+// A block is verified when its entry matches and the block that holds that entry is verified too, one level higher each time; the master
+// hash needs no entry.
+pub fn block_verified(view: View, image: &[u8], i: u64, b: u64) -> bool
+    requires { ⌜ (ViewRules view (length (now image))) × (i ≤ 4) × (b < blocks (levelOf view i)) ⌝ }
+    ensures { λ r. ⌜ r ≡ verified view (now (image .entry)) i b ⌝ }
+{
+    if i == 0 {
+        return true;
+    }
+    if !block_matches(view, image, i, b) {
+        return false;
+    }
+    let upper = level_of(view, i - 1);
+    block_verified(view, image, i - 1, parent_of(upper, b))
 }
 
 fn unseen() -> Seen

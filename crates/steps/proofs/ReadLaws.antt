@@ -18,7 +18,6 @@ use Rattle.ivfc.specs.declared.View.{View}
 use Rattle.ivfc.specs.Views.{levelOf, contentOf, verified}
 use Rattle.ivfc.specs.Verified.{firstNot}
 use Rattle.ivfc.specs.Rules.{ViewRules}
-use Rattle.ivfc.proofs.RowLaws.{first-alone}
 use Rattle.steps.specs.declared.Outcome.{Outcome}
 use Rattle.steps.specs.declared.Outcome.the-variants as outcome
 use Rattle.steps.specs.declared.Verdict.the-variants as verdict
@@ -176,17 +175,6 @@ module _ (view : View) (image : List ℕ) (b count : ℕ) (n : count ≡ blocks 
   unfolding levelOf
   block-there h = omega arith
 
-  block-said : b < count → (t : Bool) → verified view image 4 b ≡ t → said t ≡ verdictOn view image b
+  pub block-said : b < count → (t : Bool) → verified view image 4 b ≡ t → said t ≡ verdictOn view image b
   unfolding verdictOn
   block-said h t e = rw (lt-ltb b (blocks (view .level4)) (omega arith), e)
-
-  -- of one block: it is verified exactly if the first that is not comes after it
-  module _ (h : b < count) (r : ℕ) (found : r ≡ firstNot (verified view image 4) b (suc b - b)) where
-    after : ltb b r ≡ verified view image 4 b
-    after = first-alone (verified view image 4) b (suc b - b) r (omega arith) found
-
-    pub block-good : b < r → verdict.Verified ≡ verdictOn view image b
-    block-good l = block-said h true (sym after ∙ lt-ltb b r l)
-
-    pub block-bad : r ≤ b → verdict.Unproven ≡ verdictOn view image b
-    block-bad l = block-said h false (sym after ∙ le-ltb b r l)

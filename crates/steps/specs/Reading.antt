@@ -57,8 +57,8 @@ readFrom view image place buffer = record {
 }
 
 abbrev pub said : Bool → Verdict
-said true = verdict.Verified
-said false = verdict.Unproven
+said true = verdict.Yes
+said false = verdict.No
 
 -- is block b of level 4 verified: 9 for a block number past the last, then yes or no
 unfoldable pub verdictOn : View → List ℕ → (b : ℕ) → Verdict

@@ -17,8 +17,8 @@ pub enum Outcome {
 
 // Whether a block is verified.
 pub enum Verdict {
-    Verified,
-    Unproven,
+    Yes,
+    No,
     Refused(Refusal),
 }
 

@@ -3,6 +3,7 @@ use super::Outcome;
 use super::Verdict;
 use ivfc::View;
 use ivfc::gathering::gather;
+use ivfc::verifying::block_verified;
 use ivfc::verifying::first_unverified;
 use layout::Refusal;
 use number::blocks::block_count;
@@ -54,9 +55,9 @@ pub fn judge_block(view: View, image: &[u8], block: u64) -> Verdict
     if block_count(view.level4) <= block {
         return Verdict::Refused(Refusal::OutOfRange);
     }
-    if block < first_unverified(view, image, 4, block, block) {
-        Verdict::Verified
+    if block_verified(view, image, 4, block) {
+        Verdict::Yes
     } else {
-        Verdict::Unproven
+        Verdict::No
     }
 }
