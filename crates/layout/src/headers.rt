@@ -1,4 +1,5 @@
 // The header's fields and the rules on them: refusals 2 to 4.
+use super::FRONT;
 use super::Header;
 use super::JudgedHeader;
 use super::Kind;
@@ -16,6 +17,10 @@ use number::ranges::two_placed;
 ghost use mathlib.Core.Path.{_≡_};
 ghost use Prim.Native.Nat.{_+_, _<_, _^_};
 ghost use Rattle.layout.specs.Headers.{rangeAt, noSlot, slotB, disaHeader, diffHeader, selectionAllowed, geometryAllowed, judgedFields, judgedHeader};
+
+// Where the active flag stands in a header of either kind.
+pub(crate) const DISA_FLAG: usize = 0x68;
+pub(crate) const DIFF_FLAG: usize = 0x30;
 
 // The most bytes that a table may have.
 const TABLE_LIMIT: u64 = 0x1000;
@@ -62,7 +67,7 @@ fn disa_header(head: &[u8]) -> Header
     Header {
         kind: Kind::Disa,
         count,
-        flag: byte(head, 0x68) as u32,
+        flag: byte(head, DISA_FLAG) as u32,
         secondary: Range {
             offset: field8(head, 0x10),
             size,
@@ -86,7 +91,7 @@ fn diff_header(head: &[u8]) -> Header
     Header {
         kind: Kind::Diff,
         count: 1,
-        flag: field4(head, 0x30),
+        flag: field4(head, DIFF_FLAG),
         secondary: Range {
             offset: field8(head, 0x08),
             size,
@@ -116,7 +121,7 @@ fn geometry_allowed(length: u64, h: Header) -> bool
 {
     let front = Range {
         offset: 0,
-        size: 0x200,
+        size: FRONT as u64,
     };
     let secondary = h.secondary;
     let primary = h.primary;

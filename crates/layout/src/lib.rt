@@ -2,6 +2,10 @@
 use number::Level;
 use number::Range;
 
+// Where the header starts, and where the first 0x200 bytes end, with the header's end.
+pub const HEADER: usize = 0x100;
+pub const FRONT: usize = 0x200;
+
 mod descriptors;
 mod headers;
 mod magic;

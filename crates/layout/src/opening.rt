@@ -1,5 +1,7 @@
 // Opening: the checks in their order; the first that fails decides the answer.
 use super::Container;
+use super::FRONT;
+use super::HEADER;
 use super::Header;
 use super::JudgedHeader;
 use super::JudgedPartition;
@@ -16,7 +18,7 @@ use number::ranges::part_of;
 ghost use mathlib.Core.Path.{_≡_};
 ghost use Rattle.layout.specs.Opening.{lengthAllowed, judgedSlot, afterA, afterTable, opened};
 
-const SHORTEST_IMAGE: u64 = 0x200;
+const SHORTEST_IMAGE: u64 = FRONT as u64;
 
 const LONGEST_IMAGE: u64 = 0x400_0000;
 
@@ -78,7 +80,7 @@ pub fn open(image: &[u8]) -> Opened
     if !length_allowed(length) {
         return Opened::Refused(Refusal::Length);
     }
-    let head = &image[0x100..0x200];
+    let head = &image[HEADER..FRONT];
     match judge_header(length, head) {
         JudgedHeader::GoodHeader(h) => open_table(h, head, active_table(image, h)),
         JudgedHeader::BadHeader(r) => Opened::Refused(r),

@@ -1,6 +1,8 @@
 // The two tables: which is active, and whether its hash is the header's.
 use super::Header;
 use super::Kind;
+use super::headers::DIFF_FLAG;
+use super::headers::DISA_FLAG;
 use number::Range;
 use number::ranges::part_of;
 use number::runs::same_bytes;
@@ -9,7 +11,7 @@ ghost use mathlib.Core.Path.{_≡_};
 ghost use mathlib.Core.Bool.{true};
 ghost use lib.ListN.{length};
 ghost use Rattle.number.specs.Ranges.{part};
-ghost use Rattle.layout.specs.Headers.{hashRange, geometryAllowed};
+ghost use Rattle.layout.specs.Headers.{flagOffset, hashRange, geometryAllowed};
 ghost use Rattle.layout.specs.Tables.{active, inactive, tableMatches};
 
 // Flag 0 is the primary table, 1 the secondary.
@@ -38,7 +40,18 @@ pub fn active_table(image: &[u8], header: Header) -> &[u8]
     part_of(image, active_range(header))
 }
 
-fn hash_range(kind: Kind) -> Range
+// Where the active flag is in a header: its one byte, or the lowest of its four.
+pub fn flag_offset(kind: Kind) -> usize
+    ensures { λ r. ⌜ r ≡ flagOffset kind ⌝ }
+{
+    match kind {
+        Kind::Disa => DISA_FLAG,
+        Kind::Diff => DIFF_FLAG,
+    }
+}
+
+// Where the active table's hash is.
+pub fn hash_range(kind: Kind) -> Range
     ensures { λ r. ⌜ r ≡ hashRange kind ⌝ }
 {
     match kind {

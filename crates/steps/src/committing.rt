@@ -1,8 +1,10 @@
 // Commit's one store: the header.
 use layout::Container;
-use layout::Kind;
+use layout::FRONT;
+use layout::HEADER;
+use layout::tables::flag_offset;
+use layout::tables::hash_range;
 use layout::tables::inactive_range;
-use number::Range;
 use number::ranges::part_of;
 use number::runs::copy_into;
 use sha256::digest;
@@ -10,12 +12,9 @@ ghost use mathlib.Core.Path.{_≡_};
 ghost use Prim.Native.Nat.{ℕ, _+_, _≤_};
 ghost use lib.ListN.{length};
 ghost use lib.Seq.{sets};
-ghost use Rattle.layout.specs.Headers.{headerBytes, flagOffset, hashRange};
+ghost use Rattle.layout.specs.Headers.{headerRange, headerBytes};
 ghost use Rattle.layout.specs.Guarantees.{Guarantees};
 ghost use Rattle.steps.specs.Sessions.{headerCommitted, committedImage};
-
-// Where the header stands.
-const HEADER: usize = 0x100;
 
 // The header's bytes.
 pub fn header_of(image: &[u8]) -> [u8; 256]
@@ -23,28 +22,8 @@ pub fn header_of(image: &[u8]) -> [u8; 256]
     ensures { λ r. ⌜ r ≡ headerBytes (now (image .entry)) ⌝ }
 {
     let mut header = [0u8; 256];
-    copy_into(&mut header, 0, &image[HEADER..0x200]);
+    copy_into(&mut header, 0, &image[HEADER..FRONT]);
     header
-}
-
-// Where the active flag is in a header.
-fn flag_offset(kind: Kind) -> usize
-    ensures { λ r. ⌜ r ≡ flagOffset kind ⌝ }
-{
-    match kind {
-        Kind::Disa => 0x68,
-        Kind::Diff => 0x30,
-    }
-}
-
-// Where the table's hash is.
-fn hash_offset(kind: Kind) -> usize
-    ensures { λ r. ⌜ r ≡ hashRange kind .offset ⌝ }
-{
-    match kind {
-        Kind::Disa => 0x6C,
-        Kind::Diff => 0x34,
-    }
 }
 
 // The header with the flag flipped and the hash of the staged table.
@@ -58,14 +37,14 @@ fn next_header(image: &[u8], c: Container) -> [u8; 256]
     let at = flag_offset(kind);
     header[at] = (1 - h.flag) as u8;
     let hash = digest(part_of(image, inactive_range(h)));
-    copy_into(&mut header, hash_offset(kind), &hash);
+    copy_into(&mut header, hash_range(kind).offset as usize, &hash);
     header
 }
 
 // The one store of a commit: the header whole.
 fn store_header(image: &mut [u8], header: [u8; 256])
     requires { ⌜ 0x200 ≤ length (now image) ⌝ }
-    ensures { λ _. ⌜ now (image .exit) ≡ sets (now (image .entry)) 0x100 header ⌝ }
+    ensures { λ _. ⌜ now (image .exit) ≡ sets (now (image .entry)) (headerRange .offset) header ⌝ }
 {
     copy_into(image, HEADER, &header);
 }

@@ -1,11 +1,11 @@
 // Whether an image is still the one that a session began on, as refusal 14 asks.
 use super::Session;
 use layout::Container;
+use layout::FRONT;
+use layout::HEADER;
 use layout::tables::active_range;
 use layout::tables::inactive_range;
-use number::Range;
 use number::fields::byte;
-use number::ranges::part_of;
 use number::runs::same_bytes;
 use views::places::partition_of;
 use views::places::slot_of;
@@ -102,12 +102,5 @@ pub fn is_current(image: &[u8], c: Container, session: Session) -> bool
     requires { ⌜ Guarantees (now image) c ⌝ }
     ensures { λ r. ⌜ r ≡ current c (now (image .entry)) session ⌝ }
 {
-    let header = part_of(
-        image,
-        Range {
-            offset: 0x100,
-            size: 0x100,
-        },
-    );
-    same_bytes(header, &session.header) && table_staged(image, c)
+    same_bytes(&image[HEADER..FRONT], &session.header) && table_staged(image, c)
 }
