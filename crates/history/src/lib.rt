@@ -1,4 +1,4 @@
-// Lists of calls: the model that they follow, and the theorem that they do. Definitions and proofs, no code.
+// Lists of calls: the model that they follow, and the theorem that they do. Definitions and proofs; the one function asks for the theorem.
 //
 // Wrong libraries that each theorem excludes, tried as edits in must-fail/ (a wrong definition of a call is refused in steps already, so that they
 // change what a call is performed by, or what is claimed of it):
@@ -6,3 +6,10 @@
 //   staged_read_while_idle, untouched_block_refused, write_to_any_partition;
 // - crash: every_byte_free, write_lands_at_once, begin_lands_at_once; sparing: the last two;
 // - landing: first_value_wins, write_marks_nothing.
+ghost use Rattle.history.specs.Theorem.{Demand3};
+
+// Demand 3 holds: the check of this crate asks for the theorem by its statement, not by a proof's name.
+pub fn demand3()
+    ensures { λ _. ⌜ Demand3 ⌝ }
+{
+}

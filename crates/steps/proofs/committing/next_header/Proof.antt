@@ -1,7 +1,13 @@
 use Rattle.steps.proofs.HeaderLaws.{flag-small, flag-inside, hash-fits, header-made}
+use mathlib.Core.Path.{ap}
+use Prim.Native.Nat.{ℕ}
+use Rattle.number.specs.declared.Range.{Range}
 use borrow.Author.Needs.{needs}
 use Rattle.steps.proofs.committing.next_header.Statement.{statement}
 use Rattle.steps.proofs.committing.next_header.Tie as tie
+
+abbrev offset : Range → ℕ
+offset r = r .offset
 
 header-of-requires : tie.Need-header-of-requires
 header-of-requires c κs = search needs
@@ -33,17 +39,14 @@ slice-aggregate-copy-into c = search needs
 hash-range-requires : tie.Need-hash-range-requires
 hash-range-requires c κs = search needs
 
-cast-copy-into : tie.Need-cast-copy-into
-cast-copy-into c = search needs
-
 slice-aggregate-copy-into-2 : tie.Need-slice-aggregate-copy-into-2
 slice-aggregate-copy-into-2 c = search needs
 
 copy-into-requires : tie.Need-copy-into-requires
-copy-into-requires c κs = hash-fits (c .before .before .before .before .before .before .before .before .before .before .before .args .image .now) (c .before .before .before .before .before .before .before .before .before .before .before .args .c) (c .before .before .before .before .before .before .before .before .before .before .before .pre) (c .before .before .before .before .before .before .before .before .header-of .result) (c .before .before .before .before .before .before .before .before .header-of .ensures) (c .before .before .before .before .before .before .before .flag-offset .result) (c .before .hash-range .result .offset) (c .before .before .before .before .before .before .before .flag-offset .ensures) (c .before .hash-range .ensures) (c .before .before .before .before .part-of .result .now) (c .before .before .before .digest .result) (c .before .before .before .before .before .inactive-range .result) (c .before .before .before .before .before .inactive-range .ensures) (c .before .before .before .before .part-of .ensures) (c .before .before .before .digest .ensures)
+copy-into-requires c κs = hash-fits (c .before .before .before .before .before .before .before .before .before .before .before .args .image .now) (c .before .before .before .before .before .before .before .before .before .before .before .args .c) (c .before .before .before .before .before .before .before .before .before .before .before .pre) (c .before .before .before .before .before .before .before .before .header-of .result) (c .before .before .before .before .before .before .before .before .header-of .ensures) (c .before .before .before .before .before .before .before .flag-offset .result) (c .before .hash-range .result .offset) (c .before .before .before .before .before .before .before .flag-offset .ensures) (ap offset (c .before .hash-range .ensures)) (c .before .before .before .before .part-of .result .now) (c .before .before .before .digest .result) (c .before .before .before .before .before .inactive-range .result) (c .before .before .before .before .before .inactive-range .ensures) (c .before .before .before .before .part-of .ensures) (c .before .before .before .digest .ensures)
 
 returns : tie.Need-returns
-returns c = header-made (c .before .before .before .before .before .before .before .before .before .before .before .before .before .args .image .now) (c .before .before .before .before .before .before .before .before .before .before .before .before .before .args .c) (c .before .before .before .before .before .before .before .before .before .before .before .before .before .pre) (c .before .before .before .before .before .before .before .before .before .before .header-of .result) (c .before .before .before .before .before .before .before .before .before .before .header-of .ensures) (c .before .before .before .before .before .before .before .before .before .flag-offset .result) (c .before .before .before .hash-range .result .offset) (c .before .before .before .before .before .before .before .before .before .flag-offset .ensures) (c .before .before .before .hash-range .ensures) (c .before .before .before .before .before .before .part-of .result .now) (c .before .before .before .before .before .digest .result) (c .before .before .before .before .before .before .before .inactive-range .result) (c .before .before .before .before .before .before .before .inactive-range .ensures) (c .before .before .before .before .before .before .part-of .ensures) (c .before .before .before .before .before .digest .ensures) _ (c .before .copy-into .ensures)
+returns c = header-made (c .before .before .before .before .before .before .before .before .before .before .before .before .before .args .image .now) (c .before .before .before .before .before .before .before .before .before .before .before .before .before .args .c) (c .before .before .before .before .before .before .before .before .before .before .before .before .before .pre) (c .before .before .before .before .before .before .before .before .before .before .header-of .result) (c .before .before .before .before .before .before .before .before .before .before .header-of .ensures) (c .before .before .before .before .before .before .before .before .before .flag-offset .result) (c .before .before .before .hash-range .result .offset) (c .before .before .before .before .before .before .before .before .before .flag-offset .ensures) (ap offset (c .before .before .before .hash-range .ensures)) (c .before .before .before .before .before .before .part-of .result .now) (c .before .before .before .before .before .digest .result) (c .before .before .before .before .before .before .before .inactive-range .result) (c .before .before .before .before .before .before .before .inactive-range .ensures) (c .before .before .before .before .before .before .part-of .ensures) (c .before .before .before .before .before .digest .ensures) _ (c .before .copy-into .ensures)
 
 pub next-header-spec : {M : Type 1} → statement M
 next-header-spec =
@@ -59,7 +62,6 @@ next-header-spec =
     digest-requires
     slice-aggregate-copy-into
     hash-range-requires
-    cast-copy-into
     slice-aggregate-copy-into-2
     copy-into-requires
     returns)
