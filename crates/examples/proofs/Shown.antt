@@ -1,28 +1,34 @@
 -- The examples hold. Assumes nothing.
 use mathlib.Core.Path.{_≡_, refl, sym, ap, _∙_}
-use mathlib.Core.Bool.{Bool, true, false}
+use mathlib.Core.Bool.{Bool, true, false, cond}
+use mathlib.Core.Logic.{_≢_}
 use mathlib.Core.List.{List, [], _∷_}
-use Prim.Native.Nat.{ℕ, _+_, _-_, _*_, _^_, _<_}
+use Prim.Native.Nat.{ℕ, _+_, _-_, _*_, _^_, _≤_, _<_}
 use native.Mathlib.Omega.{arith}
 use native.Mathlib.Nat.{add-zero}
 use borrow.Author.Tests.{le-ltb}
 use lib.Dec.{leb}
-use lib.ListN.{replicate, getD, take, drop}
+use lib.ListN.{length, replicate, getD, take, drop}
+use Rattle.number.specs.declared.Level.{Level}
 use Rattle.number.specs.Blocks.{blockSize, blocks, blockOf, blockLength, lastBlock}
 use Rattle.number.specs.Bytes.{bytes}
 use Rattle.number.specs.Fields.{le16, le32}
 use Rattle.number.specs.Ranges.{part}
 use Rattle.number.proofs.ListLaws.{getD-part}
-use Rattle.layout.specs.declared.JudgedHeader.the-variants.{BadHeader}
-use Rattle.layout.specs.declared.Refusal.the-variants.{Selection, OutOfRange}
-use Rattle.layout.specs.Magic.{opensWith, disaMagic, diffMagic}
-use Rattle.layout.specs.Headers.{diffHeader, judgedHeader, judgedFields, selectionAllowed}
+use Rattle.layout.specs.declared.JudgedHeader.the-variants.{GoodHeader, BadHeader}
+use Rattle.layout.specs.declared.JudgedPartition.the-variants.{BadPartition}
+use Rattle.layout.specs.declared.Refusal.the-variants.{Selection, Geometry, Placement, OutOfRange}
+use Rattle.layout.specs.Magic.{opensWith, diffMagic}
+use Rattle.layout.specs.Limits.{difiSize}
+use Rattle.layout.specs.Headers.{diffHeader, judgedHeader, judgedFields, selectionAllowed, geometryAllowed}
 use Rattle.layout.specs.Tables.{active}
-use Rattle.layout.specs.Descriptors.{enoughBits}
+use Rattle.layout.specs.Descriptors.{partitionFields, formAllowed, placesAllowed, enoughBits, judgedPartition}
+use Rattle.layout.proofs.HeaderLaws.{one-kind}
+use Rattle.layout.proofs.PartitionLaws.{partition-guarantees}
 use Rattle.dpfs.specs.Bits.{bitByte, bitPlace}
 use Rattle.ivfc.specs.declared.View.{View}
 use Rattle.ivfc.specs.Verified.{firstNot}
-use Rattle.ivfc.specs.Blocks.{block, parent}
+use Rattle.ivfc.specs.Blocks.{block, entry, parent}
 use Rattle.steps.specs.declared.Outcome.the-variants.{Accepted, Refused}
 use Rattle.steps.specs.Reading.{touched, refuseLowest, refuseOutside, readOutcome}
 use Rattle.examples.specs.Table.{Examples, levelOf, flagBytes}
@@ -43,10 +49,44 @@ secondary : (header : List ℕ) → flagBytes header ≡ 1 ∷ 0 ∷ 0 ∷ 0 ∷
 unfolding active diffHeader
 secondary header e = rw (flag-value header 1 0 0 0 e)
 
-refused : (length : ℕ) (header : List ℕ) → opensWith header disaMagic ≡ false → opensWith header diffMagic ≡ true
+-- 3 passes, whatever 4 says
+passes : (length : ℕ) (header : List ℕ) → opensWith header diffMagic ≡ true → flagBytes header ≡ 1 ∷ 0 ∷ 0 ∷ 0 ∷ []
+    → judgedHeader length header ≢ BadHeader Selection
+unfolding judgedHeader judgedFields selectionAllowed diffHeader
+passes length header q e r = go (geometryAllowed length (diffHeader header)) (rw (one-kind header q, q, flag-value header 1 0 0 0 e) at r)
+  where
+    go : (t : Bool) → cond t (GoodHeader (diffHeader header)) (BadHeader Geometry) ≡ BadHeader Selection → ⊥
+    go true z = let n : _≡_ {A = ℕ} 0 1 = cc in omega arith
+    go false z = let n : _≡_ {A = ℕ} 0 1 = cc in omega arith
+
+refused : (length : ℕ) (header : List ℕ) → opensWith header diffMagic ≡ true
     → flagBytes header ≡ 0 ∷ 1 ∷ 0 ∷ 0 ∷ [] → judgedHeader length header ≡ BadHeader Selection
 unfolding judgedHeader judgedFields selectionAllowed diffHeader
-refused length header p q e = rw (p, q, flag-value header 0 1 0 0 e)
+refused length header q e = rw (one-kind header q, q, flag-value header 0 1 0 0 e)
+
+-- P6: 7,039 blocks have no bit each in 0x36C bytes, and have one in 0x370
+enough : (l : Level) (half : ℕ) → l .size ≡ 0x1B7F000 → l .log ≡ 12 → half ≡ 0x370 → enoughBits l half ≡ true
+unfolding enoughBits blocks blockSize
+enough l half s k h = rw (s, k, h) refl
+
+too-many : (l : Level) (half : ℕ) → l .size ≡ 0x1B7F000 → l .log ≡ 12 → half ≡ 0x36C → blocks l ≤ 8 * half → ⊥
+unfolding blocks blockSize
+too-many l half s k h e = let f : 7039 ≤ 8 * half = rw (s, k) at e in omega arith
+
+seven : (size : ℕ) (d : List ℕ) → formAllowed d (partitionFields d) ≡ true
+    → partitionFields d .dpfs .level3 .size ≡ 0x1B7F000 → partitionFields d .dpfs .level3 .log ≡ 12 → partitionFields d .dpfs .level2 .size ≡ 0x36C
+    → judgedPartition size d ≡ BadPartition Placement
+unfolding judgedPartition
+seven size d form s k half = rw (judgedPartition, form, not-placed (placesAllowed size (length d) (partitionFields d)) refl) (either (leb difiSize (length d)))
+  where
+    not-placed : (t : Bool) → placesAllowed size (length d) (partitionFields d) ≡ t → placesAllowed size (length d) (partitionFields d) ≡ false
+    not-placed true e = absurd (too-many (partitionFields d .dpfs .level3) (partitionFields d .dpfs .level2 .size) s k half
+        (partition-guarantees size d (partitionFields d) form e .bits3))
+    not-placed false e = e
+
+    either : (t : Bool) → cond t (BadPartition Placement) (BadPartition Placement) ≡ BadPartition Placement
+    either true = refl
+    either false = refl
 
 outside : (view : View) (image : List ℕ) (place n : ℕ) → view .level4 .size ≡ 0x1000 → leb (place + n) 0x1000 ≡ false
     → readOutcome view image place n ≡ Refused OutOfRange
@@ -61,24 +101,28 @@ second-block : (f : ℕ → ℕ) → block (levelOf 0x1001 12) f 1 ≡ f 0x1000 
 unfolding block blockSize blockLength bytes
 second-block f = refl
 
+entry-at : (f : ℕ → ℕ) → entry f 130 ≡ bytes f 0x1040 32
+unfolding entry
+entry-at f = refl
+
 entry-block : (size : ℕ) → parent (levelOf size 12) 130 ≡ 1
 unfolding parent blockOf blockSize
 entry-block size = refl
 
 pub shown : Examples
-unfolding bitByte bitPlace blockOf blockSize blocks enoughBits
+unfolding bitByte bitPlace blockOf blockSize blocks
 shown = record {
   p1 = (refl, refl);
   p2 = (refl, refl);
   p3 = (refl, refl);
   p4 = (refl, refl);
   p5 = (refl, refl);
-  p6 = (refl, refl);
+  p6 = λ size d form s k. (enough (partitionFields d .dpfs .level3) (partitionFields d .dpfs .level2 .size) s k, seven size d form s k);
   p7 = (refl, second-block);
   p8 = λ view image e. (accepted view image e, outside view image 0x1000 1 e refl);
   p9 = λ view image e. outside view image 0x1001 0 e refl;
   p10 = λ view image e. outside view image (2 ^ 64 - 1) 1 e refl;
-  p11 = (refl, entry-block);
-  p12 = λ length header p q. (secondary header, refused length header p q);
-  numbers = (refl, refl);
+  p11 = (entry-at, entry-block);
+  p12 = λ length header q. (λ e. (secondary header e, passes length header q e), refused length header q);
+  numbers = (refl, refl, refl);
 }

@@ -1,23 +1,26 @@
 -- 01's examples P1 to P12, against the definitions that the contracts cite: one table, one claim (proofs/Shown.antt, `shown`).
 use mathlib.Core.Path.{_≡_}
-use mathlib.Core.Bool.{Bool, true, false}
+use mathlib.Core.Logic.{_≢_}
+use mathlib.Core.Bool.{true}
 use mathlib.Core.List.{List, [], _∷_}
 use Prim.Native.Nat.{ℕ, _+_, _-_, _*_, _^_}
 use lib.ListN.{replicate, getD}
 use Rattle.number.specs.declared.Level.{Level}
 use Rattle.number.specs.Blocks.{blocks, blockOf}
+use Rattle.number.specs.Bytes.{bytes}
 use Rattle.number.specs.Ranges.{part}
 use Rattle.layout.specs.declared.JudgedHeader.the-variants.{BadHeader}
 use Rattle.layout.specs.declared.Refusal.{Refusal}
-use Rattle.layout.specs.declared.Refusal.the-variants.{Selection, OutOfRange}
+use Rattle.layout.specs.declared.Refusal.the-variants.{Selection, Placement, OutOfRange}
 use Rattle.layout.specs.Refusals.{number}
-use Rattle.layout.specs.Magic.{opensWith, disaMagic, diffMagic}
+use Rattle.layout.specs.declared.JudgedPartition.the-variants.{BadPartition}
+use Rattle.layout.specs.Magic.{opensWith, diffMagic}
 use Rattle.layout.specs.Headers.{diffHeader, judgedHeader}
 use Rattle.layout.specs.Tables.{active}
-use Rattle.layout.specs.Descriptors.{enoughBits}
+use Rattle.layout.specs.Descriptors.{partitionFields, formAllowed, enoughBits, judgedPartition}
 use Rattle.dpfs.specs.Bits.{bitByte, bitPlace}
 use Rattle.ivfc.specs.declared.View.{View}
-use Rattle.ivfc.specs.Blocks.{block, parent}
+use Rattle.ivfc.specs.Blocks.{block, entry, parent}
 use Rattle.steps.specs.declared.Outcome.the-variants.{Accepted, Refused}
 use Rattle.steps.specs.Reading.{readOutcome}
 
@@ -37,8 +40,11 @@ pub record Examples : Type 0 where
   pub p4 : (bitByte 0x1234 ≡ 0x245) × (2 ^ bitPlace 0x1234 ≡ 0x08)
   -- P5 level 3 place 0x1234567, logarithms 7 and 12: level 2 bit 0x1234, level 1 bit 4
   pub p5 : (blockOf (levelOf 0x1B7F000 12) 0x1234567 ≡ 0x1234) × (blockOf (levelOf 0x380 7) (bitByte 0x1234) ≡ 4)
-  -- P6 level 3 size 0x1B7F000, logarithm 12: a level 2 half of 0x370 bytes is enough, 0x36C is not
-  pub p6 : (enoughBits (levelOf 0x1B7F000 12) 0x370 ≡ true) × (enoughBits (levelOf 0x1B7F000 12) 0x36C ≡ false)
+  -- P6 level 3 size 0x1B7F000, logarithm 12: a level 2 half of 0x370 bytes is enough, 0x36C gives 7 (of any descriptor that passes 6)
+  pub p6 : (size : ℕ) (d : List ℕ) → formAllowed d (partitionFields d) ≡ true
+      → partitionFields d .dpfs .level3 .size ≡ 0x1B7F000 → partitionFields d .dpfs .level3 .log ≡ 12
+      → (partitionFields d .dpfs .level2 .size ≡ 0x370 → enoughBits (partitionFields d .dpfs .level3) (partitionFields d .dpfs .level2 .size) ≡ true)
+      × (partitionFields d .dpfs .level2 .size ≡ 0x36C → judgedPartition size d ≡ BadPartition Placement)
   -- P7 level 4 size 0x1001, logarithm 12: two blocks; the second is one byte and 0xFFF zeros
   pub p7 : (blocks (levelOf 0x1001 12) ≡ 2) × ((f : ℕ → ℕ) → block (levelOf 0x1001 12) f 1 ≡ f 0x1000 ∷ replicate 0xFFF 0)
   -- P8 level 4 size 0x1000: place 0x1000 length 0 accepted; length 1 gives 9
@@ -49,10 +55,11 @@ pub record Examples : Type 0 where
   -- P10 place 2^64 - 1, length 1: 9
   pub p10 : (view : View) (image : List ℕ) → view .level4 .size ≡ 0x1000 → readOutcome view image (2 ^ 64 - 1) 1 ≡ Refused OutOfRange
   -- P11 level 4 block 130, level 3 logarithm 12: entry at 0x1040, in level 3's block 1
-  pub p11 : (32 * 130 ≡ 0x1040) × ((size : ℕ) → parent (levelOf size 12) 130 ≡ 1)
-  -- P12 DIFF flag 01 00 00 00: secondary; 00 01 00 00: refusal 3
-  pub p12 : (length : ℕ) (header : List ℕ) → opensWith header disaMagic ≡ false → opensWith header diffMagic ≡ true
-      → (flagBytes header ≡ 1 ∷ 0 ∷ 0 ∷ 0 ∷ [] → active (diffHeader header) ≡ diffHeader header .secondary)
+  pub p11 : ((level3 : ℕ → ℕ) → entry level3 130 ≡ bytes level3 0x1040 32) × ((size : ℕ) → parent (levelOf size 12) 130 ≡ 1)
+  -- P12 DIFF flag 01 00 00 00: secondary, and 3 does not apply; 00 01 00 00: refusal 3
+  pub p12 : (length : ℕ) (header : List ℕ) → opensWith header diffMagic ≡ true
+      → (flagBytes header ≡ 1 ∷ 0 ∷ 0 ∷ 0 ∷ []
+          → (active (diffHeader header) ≡ diffHeader header .secondary) × (judgedHeader length header ≢ BadHeader Selection))
       × (flagBytes header ≡ 0 ∷ 1 ∷ 0 ∷ 0 ∷ [] → judgedHeader length header ≡ BadHeader Selection)
-  -- 9 and 3 are the numbers of these refusals
-  pub numbers : (number OutOfRange ≡ 9) × (number Selection ≡ 3)
+  -- 9, 3 and 7 are the numbers of these refusals
+  pub numbers : (number OutOfRange ≡ 9) × (number Selection ≡ 3) × (number Placement ≡ 7)

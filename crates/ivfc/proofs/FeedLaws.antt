@@ -3,8 +3,7 @@ use mathlib.Core.Path.{_≡_, sym, ap, _∙_}
 use mathlib.Core.List.{List, [], _++_, append-assoc, append-nil}
 use Prim.Native.Nat.{ℕ, _+_, _-_, _*_, _≤_}
 use native.Mathlib.Omega.{arith}
-use lib.ListN.{length, take, replicate, length-replicate, replicate-append-replicate}
-use lib.Seq.{take-at}
+use lib.ListN.{length, replicate, replicate-append-replicate}
 use Rattle.number.specs.Bytes.{bytes}
 use Rattle.number.specs.declared.Level.{Level}
 use Rattle.number.proofs.ListLaws.{bytes-append}
@@ -27,12 +26,6 @@ pub fed-zeros : (m : List ℕ) (n k t : ℕ) → n + k ≡ t → (m ++ replicate
 fed-zeros m n k t e =
     append-assoc m (replicate n 0) (replicate k 0)
     ∙ ap (λ (l : List ℕ). m ++ l) (replicate-append-replicate n k 0 ∙ ap (λ (j : ℕ). replicate j 0) e)
-
-pub take-zeros : (n k : ℕ) → k ≤ n → _≡_ {A = List ℕ} (take k (replicate n 0)) (replicate k 0)
-take-zeros n k h =
-    let e : n ≡ k + (n - k) = omega arith in
-    ap (λ (j : ℕ). take k (replicate j 0)) e ∙ ap (take k) (sym (replicate-append-replicate k (n - k) 0))
-    ∙ take-at (replicate k 0) (replicate (n - k) 0) k (length-replicate k 0)
 
 -- nothing yet
 pub fed-none : (f : ℕ → ℕ) (x : ℕ) (m : List ℕ) → m ≡ m ++ bytes f x (x - x)

@@ -7,4 +7,3 @@ mod MemoryLaws
 pub mod RowLaws
 pub mod DigestLaws
 mod FeedLaws
-pub mod Examples

@@ -4,4 +4,3 @@ pub mod TableLaws
 pub mod PartitionLaws
 pub mod GuaranteeLaws
 pub mod FrameLaws
-pub mod Examples

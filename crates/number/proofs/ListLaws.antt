@@ -7,7 +7,7 @@ use native.Mathlib.Omega.{arith}
 use native.Mathlib.Nat.{add-zero}
 use native.Mathlib.Numerals.{add-one}
 use native.Mathlib.Decide.{ℕ-discrete, decLt}
-use lib.ListN.{length, getD, take, drop, set, length-set, length-take, length-drop, drop-of-length-le}
+use lib.ListN.{length, getD, take, drop, set, replicate, length-set, length-take, length-drop, length-replicate, replicate-append-replicate, drop-of-length-le}
 use lib.Seq.{ext-getD, getD-take, getD-drop, getD-set-same, getD-set-other, sets, length-sets, drop-cons, drop-length, drop-at, take-at, take-nil, take-all}
 use lib.Dec.{eqb}
 use mathlib.Core.Bool.{Bool, true, false, _&&_, true≢false}
@@ -291,3 +291,10 @@ copied-sets s source target n h k =
     apart : (i : ℕ) → Outside target n i → (m : ℕ) → m < n → i ≢ target + m
     apart i (inl p) m q e = omega arith
     apart i (inr p) m q e = omega arith
+
+-- the front of zeros is zeros
+pub take-zeros : (n k : ℕ) → k ≤ n → _≡_ {A = List ℕ} (take k (replicate n 0)) (replicate k 0)
+take-zeros n k h =
+    let e : n ≡ k + (n - k) = omega arith in
+    ap (λ (j : ℕ). take k (replicate j 0)) e ∙ ap (take k) (sym (replicate-append-replicate k (n - k) 0))
+    ∙ take-at (replicate k 0) (replicate (n - k) 0) k (length-replicate k 0)

@@ -1,6 +1,6 @@
 -- Tests: what a Bool-valued test says, and tests that say the same. Assumes nothing.
 use Prim.Native.Nat.{ℕ, _+_, _-_, _*_, _/_, _%_, _≤_, _<_}
-use mathlib.Core.Bool.{Bool, true, false, not, cond, _&&_, _||_}
+use mathlib.Core.Bool.{Bool, true, false, not, cond, _&&_, _||_, true≢false}
 use mathlib.Core.Path.{_≡_, refl, sym, ap, ap₂, _∙_}
 use lib.Dec.{leb, ltb, eqb}
 use borrow.Author.Tests.{leb-true, leb-false, le-leb, lt-leb, eq-eqb, ne-eqb, not-true, not-false}
@@ -35,6 +35,15 @@ is k p q = eq-eqb _ k (sym p ∙ q)
 
 pub is-not : {r x : ℕ} (k : ℕ) → r ≡ x → (r ≡ k → ⊥) → eqb x k ≡ false
 is-not k p q = ne-eqb _ k (λ e. q (p ∙ e))
+
+-- the parts of a disjunction that fails
+pub or-left-false : (a b : Bool) → a || b ≡ false → a ≡ false
+or-left-false true b e = e
+or-left-false false b e = refl
+
+pub or-right-false : (a b : Bool) → a || b ≡ false → b ≡ false
+or-right-false true b e = absurd (true≢false e)
+or-right-false false b e = e
 
 -- the parts of a conjunction, and one that fails
 pub and-left : (a b : Bool) → a && b ≡ true → a ≡ true

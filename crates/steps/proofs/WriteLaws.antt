@@ -17,7 +17,7 @@ use Rattle.number.specs.Blocks.{blocks, blockOf, lastBlock, touches}
 use Rattle.number.specs.Bytes.{within, overlay, sameBytes}
 use Rattle.number.specs.Ranges.{Apart, part}
 use Rattle.number.proofs.RangeLaws.{apart-swap}
-use Rattle.number.proofs.Tests.{and-left, and-right, and-both}
+use Rattle.number.proofs.Tests.{and-left, and-right, and-both, or-left-false, or-right-false}
 use Rattle.number.proofs.BlockLaws.{touches-is}
 use Rattle.number.proofs.OverlayLaws.{within-in}
 use Rattle.layout.specs.declared.Container.{Container}
@@ -99,14 +99,6 @@ write-accepted view image place n e =
     (inner .0, lowest-accepted (aboveVerified view image) UnverifiedAbove view place n (endsOutcome view image place n) (inner .1) .0)
 
 -- ---- tests
-
-or-left-false : (a b : Bool) → a || b ≡ false → a ≡ false
-or-left-false true b e = e
-or-left-false false b e = refl
-
-or-right-false : (a b : Bool) → a || b ≡ false → b ≡ false
-or-right-false true b e = absurd (true≢false e)
-or-right-false false b e = e
 
 both : (a b : Bool) → a ≡ true → a && b ≡ false → b ≡ false
 both true b p e = e

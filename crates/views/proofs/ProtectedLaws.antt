@@ -138,7 +138,7 @@ module _ (image : List ℕ) (c : Container) (g : Guarantees image c) (i : ℕ) w
   free-in-partition q k f = pairs-inside (treeOf c q) image i (slotOf c q .partition) (tree-inside image c g q k) (free-in-pairs (treeOf c q) image i f)
 
   -- two partitions are the same or apart
-  same-or-apart : (q r : ℕ) → q < partitions c → r < partitions c → (q ≡ r) ⊎ Apart (slotOf c q .partition) (slotOf c r .partition)
+  pub same-or-apart : (q r : ℕ) → q < partitions c → r < partitions c → (q ≡ r) ⊎ Apart (slotOf c q .partition) (slotOf c r .partition)
   unfolding slotOf
   same-or-apart zero zero h k = inl refl
   same-or-apart zero (suc zero) h k = inr (g .header .partitionsApart (second-there (length image) (c .header) (g .header) k))

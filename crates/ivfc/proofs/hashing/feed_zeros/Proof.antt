@@ -5,7 +5,8 @@ use mathlib.Core.List.{List, _++_, append-nil}
 use native.Mathlib.Omega.{arith}
 use lib.ListN.{length, replicate, length-replicate}
 use Rattle.sha256.specs.Running.{Holds}
-use Rattle.ivfc.proofs.FeedLaws.{fed-zeros, take-zeros}
+use Rattle.number.proofs.ListLaws.{take-zeros}
+use Rattle.ivfc.proofs.FeedLaws.{fed-zeros}
 use Rattle.ivfc.proofs.hashing.feed_zeros.Statement.{statement}
 use Rattle.ivfc.proofs.hashing.feed_zeros.Tie as tie
 
