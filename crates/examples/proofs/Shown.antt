@@ -15,6 +15,7 @@ use Rattle.number.specs.Bytes.{bytes}
 use Rattle.number.specs.Fields.{le16, le32}
 use Rattle.number.specs.Ranges.{part}
 use Rattle.number.proofs.ListLaws.{getD-part}
+use Rattle.layout.specs.declared.Header.{Header}
 use Rattle.layout.specs.declared.JudgedHeader.the-variants.{GoodHeader, BadHeader}
 use Rattle.layout.specs.declared.JudgedPartition.the-variants.{BadPartition}
 use Rattle.layout.specs.declared.Refusal.the-variants.{Selection, Geometry, Placement, OutOfRange}
@@ -50,14 +51,22 @@ unfolding active diffHeader
 secondary header e = rw (flag-value header 1 0 0 0 e)
 
 -- 3 passes, whatever 4 says
-passes : (length : ℕ) (header : List ℕ) → opensWith header diffMagic ≡ true → flagBytes header ≡ 1 ∷ 0 ∷ 0 ∷ 0 ∷ []
-    → judgedHeader length header ≢ BadHeader Selection
-unfolding judgedHeader judgedFields selectionAllowed diffHeader
-passes length header q e r = go (geometryAllowed length (diffHeader header)) (rw (one-kind header q, q, flag-value header 1 0 0 0 e) at r)
+selected : (header : List ℕ) → flagBytes header ≡ 1 ∷ 0 ∷ 0 ∷ 0 ∷ [] → selectionAllowed (diffHeader header) ≡ true
+unfolding selectionAllowed diffHeader
+selected header e = rw (flag-value header 1 0 0 0 e)
+
+not-three : (length : ℕ) (h : Header) → selectionAllowed h ≡ true → judgedFields length h ≢ BadHeader Selection
+unfolding judgedFields
+not-three length h s r = go (geometryAllowed length h) (rw s at r)
   where
-    go : (t : Bool) → cond t (GoodHeader (diffHeader header)) (BadHeader Geometry) ≡ BadHeader Selection → ⊥
+    go : (t : Bool) → cond t (GoodHeader h) (BadHeader Geometry) ≡ BadHeader Selection → ⊥
     go true z = let n : _≡_ {A = ℕ} 0 1 = cc in omega arith
     go false z = let n : _≡_ {A = ℕ} 0 1 = cc in omega arith
+
+passes : (length : ℕ) (header : List ℕ) → opensWith header diffMagic ≡ true → flagBytes header ≡ 1 ∷ 0 ∷ 0 ∷ 0 ∷ []
+    → judgedHeader length header ≢ BadHeader Selection
+unfolding judgedHeader
+passes length header q e r = not-three length (diffHeader header) (selected header e) (rw (one-kind header q, q) at r)
 
 refused : (length : ℕ) (header : List ℕ) → opensWith header diffMagic ≡ true
     → flagBytes header ≡ 0 ∷ 1 ∷ 0 ∷ 0 ∷ [] → judgedHeader length header ≡ BadHeader Selection
