@@ -188,9 +188,9 @@ static void expect_description(const uint8_t *image, size_t length) {
 
 /* ---- the calls */
 
-/* That many bytes, an allocation of their own, so that a tool like valgrind sees a step outside. */
+/* That many zero bytes, an allocation of their own, so that a tool like valgrind sees a step outside. */
 static void *allocated(size_t length) {
-    void *bytes = malloc(length + !length);
+    void *bytes = calloc(length + !length, 1);
     if (!bytes) {
         printf("no memory\n");
         exit(1);
@@ -203,7 +203,7 @@ static void *allocated(size_t length) {
 /* The committed view of a partition: its count is that of its verified blocks, and a read of it all is accepted or names the first other. */
 static void expect_committed(const uint8_t *image, size_t length, uint64_t q, uint64_t size, uint64_t log) {
     uint64_t blocks = (size + ((uint64_t)1 << log) - 1) >> log, b, answer, verified = 0, first = blocks;
-    uint8_t *buffer = allocated(size);
+    uint8_t *buffer = allocated(size + 1);
     for (b = 0; b < blocks; b++) {
         answer = teplovist_verified(image, length, q, b);
         expect("verified", TEPLOVIST_ACCEPTED, TEPLOVIST_REFUSAL(answer));
@@ -218,6 +218,7 @@ static void expect_committed(const uint8_t *image, size_t length, uint64_t q, ui
     expect("read_committed", first == blocks ? TEPLOVIST_ACCEPTED : TEPLOVIST_UNVERIFIED, TEPLOVIST_REFUSAL(answer));
     expect("the block refused", first == blocks ? 0 : first, TEPLOVIST_VALUE(answer));
     REFUSED(TEPLOVIST_OUT_OF_RANGE, teplovist_verified(image, length, q, blocks));
+    REFUSED(TEPLOVIST_OUT_OF_RANGE, teplovist_read_committed(image, length, q, 0, buffer, size + 1));
     REFUSED(TEPLOVIST_OUT_OF_RANGE, teplovist_read_committed(image, length, q, size, buffer, 1));
     REFUSED(TEPLOVIST_OUT_OF_RANGE, teplovist_read_committed(image, length, q, UINT64_MAX, buffer, 1));
     REFUSED(TEPLOVIST_ACCEPTED, teplovist_read_committed(image, length, q, size, buffer, 0));
@@ -288,11 +289,15 @@ static void expect_no_write(uint8_t *image, size_t length, uint64_t q) {
 
 static void expect_refusals(const uint8_t *image, size_t length) {
     uint64_t before[TEPLOVIST_DESCRIPTION_LENGTH];
-    uint8_t zeros[0x200] = {0}, byte = 0x5A;
+    uint8_t *zeros = allocated(0x4000001), byte = 0x5A;
     memset(description, 0xA5, sizeof description);
     memcpy(before, description, sizeof description);
     REFUSED(TEPLOVIST_LENGTH, teplovist_open(image, 0x1FF, description));
-    REFUSED(TEPLOVIST_FORMAT, teplovist_open(zeros, sizeof zeros, description));
+    REFUSED(TEPLOVIST_LENGTH, teplovist_open(image, 0, description));
+    REFUSED(TEPLOVIST_LENGTH, teplovist_open(zeros, 0x4000001, description));
+    REFUSED(TEPLOVIST_FORMAT, teplovist_open(zeros, 0x4000000, description));
+    REFUSED(TEPLOVIST_FORMAT, teplovist_open(zeros, 0x200, description));
+    free(zeros);
     expect_bytes("the description of an image that is refused", (uint8_t *)before, (uint8_t *)description, sizeof description);
     REFUSED(TEPLOVIST_NO_PARTITION, teplovist_count_verified(image, length, 2));
     REFUSED(TEPLOVIST_NO_PARTITION, teplovist_read_committed(image, length, UINT64_MAX, 0, &byte, 1));
