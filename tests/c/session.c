@@ -198,132 +198,187 @@ static void *allocated(size_t length) {
     return bytes;
 }
 
-#define REFUSED(number, call) expect(#call, number, call)
+/* A call whose whole answer is a refusal's number, or 0. */
+#define ANSWERS(number, call) expect(#call, number, call)
 
-/* The committed view of a partition: its count is that of its verified blocks, and a read of it all is accepted or names the first other. */
-static void expect_committed(const uint8_t *image, size_t length, uint64_t q, uint64_t size, uint64_t log) {
-    uint64_t blocks = (size + ((uint64_t)1 << log) - 1) >> log, b, answer, verified = 0, first = blocks;
-    uint8_t *buffer = allocated(size + 1);
+/* A partition's level 4. */
+struct level4 {
+    uint64_t partition, external, size, log;
+};
+
+static struct level4 level4_of(uint64_t partition) {
+    const uint64_t *numbers = description + (partition == 0 ? TEPLOVIST_A : TEPLOVIST_B);
+    struct level4 level = {partition, numbers[TEPLOVIST_EXTERNAL], numbers[TEPLOVIST_IVFC_LEVEL4_SIZE], numbers[TEPLOVIST_IVFC_LEVEL4_LOG]};
+    return level;
+}
+
+static uint64_t blocks_of(struct level4 level) {
+    return (level.size + ((uint64_t)1 << level.log) - 1) >> level.log;
+}
+
+/* The first block of which "is it verified" says no or yes, else the number of blocks. */
+static uint64_t first_block(const uint8_t *image, size_t length, struct level4 level, uint64_t said) {
+    uint64_t b = 0;
+    while (b < blocks_of(level) && teplovist_verified(image, length, level.partition, b) != said << 8)
+        b++;
+    return b;
+}
+
+/* The count is that of the blocks that are verified, and a read of all of level 4 is accepted or names the first that is not. */
+static void expect_committed(const uint8_t *image, size_t length, struct level4 level) {
+    uint64_t blocks = blocks_of(level), b, answer, verified = 0, first = first_block(image, length, level, 0);
+    uint8_t *buffer = allocated(level.size);
     for (b = 0; b < blocks; b++) {
-        answer = teplovist_verified(image, length, q, b);
+        answer = teplovist_verified(image, length, level.partition, b);
         expect("verified", TEPLOVIST_ACCEPTED, TEPLOVIST_REFUSAL(answer));
         verified += TEPLOVIST_VALUE(answer);
-        if (TEPLOVIST_VALUE(answer) == 0 && first == blocks)
-            first = b;
     }
-    answer = teplovist_count_verified(image, length, q);
+    answer = teplovist_count_verified(image, length, level.partition);
     expect("count_verified", TEPLOVIST_ACCEPTED, TEPLOVIST_REFUSAL(answer));
     expect("the count", verified, TEPLOVIST_VALUE(answer));
-    answer = teplovist_read_committed(image, length, q, 0, buffer, size);
+    answer = teplovist_read_committed(image, length, level.partition, 0, buffer, level.size);
     expect("read_committed", first == blocks ? TEPLOVIST_ACCEPTED : TEPLOVIST_UNVERIFIED, TEPLOVIST_REFUSAL(answer));
-    expect("the block refused", first == blocks ? 0 : first, TEPLOVIST_VALUE(answer));
-    REFUSED(TEPLOVIST_OUT_OF_RANGE, teplovist_verified(image, length, q, blocks));
-    REFUSED(TEPLOVIST_OUT_OF_RANGE, teplovist_read_committed(image, length, q, 0, buffer, size + 1));
-    REFUSED(TEPLOVIST_OUT_OF_RANGE, teplovist_read_committed(image, length, q, size, buffer, 1));
-    REFUSED(TEPLOVIST_OUT_OF_RANGE, teplovist_read_committed(image, length, q, UINT64_MAX, buffer, 1));
-    REFUSED(TEPLOVIST_ACCEPTED, teplovist_read_committed(image, length, q, size, buffer, 0));
+    expect("the block that is refused", first == blocks ? 0 : first, TEPLOVIST_VALUE(answer));
     free(buffer);
 }
 
-/* Writes the first verified block of a partition, reads it back before and after the commit, and leaves the session idle. */
-static void expect_session(uint8_t *image, size_t length, uint64_t q, uint64_t size, uint64_t log) {
-    uint8_t session[TEPLOVIST_SESSION_SIZE] = {0}, idle[TEPLOVIST_SESSION_SIZE] = {0}, remembered[TEPLOVIST_SESSION_SIZE];
-    uint64_t place = 0, n, i, flag = header_of(image).flag;
-    uint8_t *old, *data, *got, *committed;
-    while (place < size && teplovist_verified(image, length, q, place >> log) == 0)
-        place += (uint64_t)1 << log;
-    n = size - place < (uint64_t)1 << log ? size - place : (uint64_t)1 << log;
-    old = allocated(n);
-    data = allocated(n);
-    got = allocated(n);
-    committed = allocated(length);
-    for (i = 0; i < n; i++)
-        data[i] = (uint8_t)(i * 7 + q + 1);
-    REFUSED(TEPLOVIST_SESSION_STATE, teplovist_commit(image, length, session));
-    REFUSED(TEPLOVIST_SESSION_STATE, teplovist_abandon(session));
-    REFUSED(TEPLOVIST_ACCEPTED, teplovist_read_committed(image, length, q, place, old, n));
-    REFUSED(TEPLOVIST_ACCEPTED, teplovist_begin(image, length, session));
-    expect("the session is begun", 1, session[0]);
-    expect_bytes("the session's header", image + 0x100, session + 1, 256);
-    REFUSED(TEPLOVIST_SESSION_STATE, teplovist_begin(image, length, session));
+static void expect_limits(const uint8_t *image, size_t length, struct level4 level) {
+    uint8_t *buffer = allocated(level.size + 1);
+    ANSWERS(TEPLOVIST_OUT_OF_RANGE, teplovist_verified(image, length, level.partition, blocks_of(level)));
+    ANSWERS(TEPLOVIST_OUT_OF_RANGE, teplovist_read_committed(image, length, level.partition, 0, buffer, level.size + 1));
+    ANSWERS(TEPLOVIST_OUT_OF_RANGE, teplovist_read_committed(image, length, level.partition, level.size, buffer, 1));
+    ANSWERS(TEPLOVIST_OUT_OF_RANGE, teplovist_read_committed(image, length, level.partition, UINT64_MAX, buffer, 1));
+    ANSWERS(TEPLOVIST_ACCEPTED, teplovist_read_committed(image, length, level.partition, level.size, buffer, 0));
+    free(buffer);
+}
 
-    REFUSED(TEPLOVIST_ACCEPTED, teplovist_write(image, length, session, q, place, data, n));
-    REFUSED(TEPLOVIST_ACCEPTED, teplovist_read_staged(image, length, session, q, place, got, n));
-    expect_bytes("the staged bytes", data, got, n);
-    REFUSED(TEPLOVIST_ACCEPTED, teplovist_read_committed(image, length, q, place, got, n));
-    expect_bytes("the committed bytes before the commit", old, got, n);
-    REFUSED(TEPLOVIST_OUT_OF_RANGE, teplovist_write(image, length, session, q, size, data, 1));
-    REFUSED(TEPLOVIST_NO_PARTITION, teplovist_write(image, length, session, 2, 0, data, 1));
+/* ---- sessions */
 
-    memcpy(remembered, session, sizeof session);
-    remembered[1 + 0xFF] ^= 1;
-    REFUSED(TEPLOVIST_STALE, teplovist_commit(image, length, remembered));
-    REFUSED(TEPLOVIST_ACCEPTED, teplovist_commit(image, length, session));
-    expect_bytes("the session is idle", idle, session, sizeof session);
-    expect("the flag is flipped", 1 - flag, header_of(image).flag);
-    REFUSED(TEPLOVIST_ACCEPTED, teplovist_read_committed(image, length, q, place, got, n));
-    expect_bytes("the committed bytes after the commit", data, got, n);
-    REFUSED(TEPLOVIST_SESSION_STATE, teplovist_read_staged(image, length, session, q, place, got, n));
+/* A session on one block: what it held, what is written to it, and a buffer to read it back. */
+struct trial {
+    uint8_t *image;
+    size_t length, n;
+    uint64_t partition, place;
+    uint8_t *old, *data, *got;
+    uint8_t session[TEPLOVIST_SESSION_SIZE];
+};
 
-    memcpy(committed, image, length);
-    REFUSED(TEPLOVIST_ACCEPTED, teplovist_begin(image, length, session));
-    REFUSED(TEPLOVIST_ACCEPTED, teplovist_write(image, length, session, q, place, old, n));
-    REFUSED(TEPLOVIST_ACCEPTED, teplovist_abandon(session));
-    expect_bytes("the session is idle again", idle, session, sizeof session);
-    expect_bytes("the header after an abandon", committed, image, 0x200);
-    REFUSED(TEPLOVIST_ACCEPTED, teplovist_read_committed(image, length, q, place, got, n));
-    expect_bytes("the committed bytes after an abandon", data, got, n);
-    free(old);
-    free(data);
-    free(got);
-    free(committed);
+static const uint8_t idle[TEPLOVIST_SESSION_SIZE];
+
+static void expect_read(const struct trial *t, const char *what, const uint8_t *wanted) {
+    ANSWERS(TEPLOVIST_ACCEPTED, teplovist_read_committed(t->image, t->length, t->partition, t->place, t->got, t->n));
+    expect_bytes(what, wanted, t->got, t->n);
+}
+
+static void expect_begin(struct trial *t) {
+    ANSWERS(TEPLOVIST_SESSION_STATE, teplovist_commit(t->image, t->length, t->session));
+    ANSWERS(TEPLOVIST_SESSION_STATE, teplovist_abandon(t->session));
+    ANSWERS(TEPLOVIST_ACCEPTED, teplovist_begin(t->image, t->length, t->session));
+    expect("the session is begun", 1, t->session[0]);
+    expect_bytes("the session's header", t->image + 0x100, t->session + 1, 256);
+    ANSWERS(TEPLOVIST_SESSION_STATE, teplovist_begin(t->image, t->length, t->session));
+}
+
+static void expect_write(struct trial *t, uint64_t size) {
+    ANSWERS(TEPLOVIST_ACCEPTED, teplovist_write(t->image, t->length, t->session, t->partition, t->place, t->data, t->n));
+    ANSWERS(TEPLOVIST_ACCEPTED, teplovist_read_staged(t->image, t->length, t->session, t->partition, t->place, t->got, t->n));
+    expect_bytes("the staged bytes", t->data, t->got, t->n);
+    expect_read(t, "the committed bytes before the commit", t->old);
+    ANSWERS(TEPLOVIST_OUT_OF_RANGE, teplovist_write(t->image, t->length, t->session, t->partition, size, t->data, 1));
+    ANSWERS(TEPLOVIST_NO_PARTITION, teplovist_write(t->image, t->length, t->session, 2, 0, t->data, 1));
+}
+
+static void expect_commit(struct trial *t) {
+    uint64_t flag = header_of(t->image).flag;
+    uint8_t other[TEPLOVIST_SESSION_SIZE];
+    memcpy(other, t->session, sizeof other);
+    other[sizeof other - 1] ^= 1;
+    ANSWERS(TEPLOVIST_STALE, teplovist_commit(t->image, t->length, other));
+    ANSWERS(TEPLOVIST_ACCEPTED, teplovist_commit(t->image, t->length, t->session));
+    expect_bytes("the session after a commit", idle, t->session, sizeof idle);
+    expect("the flag after a commit", 1 - flag, header_of(t->image).flag);
+    expect_read(t, "the committed bytes after the commit", t->data);
+    ANSWERS(TEPLOVIST_SESSION_STATE, teplovist_read_staged(t->image, t->length, t->session, t->partition, t->place, t->got, t->n));
+}
+
+static void expect_abandon(struct trial *t) {
+    uint8_t front[0x200];
+    memcpy(front, t->image, sizeof front);
+    ANSWERS(TEPLOVIST_ACCEPTED, teplovist_begin(t->image, t->length, t->session));
+    ANSWERS(TEPLOVIST_ACCEPTED, teplovist_write(t->image, t->length, t->session, t->partition, t->place, t->old, t->n));
+    ANSWERS(TEPLOVIST_ACCEPTED, teplovist_abandon(t->session));
+    expect_bytes("the session after an abandon", idle, t->session, sizeof idle);
+    expect_bytes("the header after an abandon", front, t->image, sizeof front);
+    expect_read(t, "the committed bytes after an abandon", t->data);
+}
+
+/* Writes the first verified block of a partition, commits it, and abandons another write. */
+static void expect_session(uint8_t *image, size_t length, struct level4 level) {
+    struct trial t = {0};
+    uint64_t block = (uint64_t)1 << level.log;
+    size_t i;
+    t.image = image;
+    t.length = length;
+    t.partition = level.partition;
+    t.place = first_block(image, length, level, 1) * block;
+    expect("a verified block is there", 1, t.place < level.size);
+    t.n = level.size - t.place < block ? level.size - t.place : block;
+    t.old = allocated(t.n);
+    t.data = allocated(t.n);
+    t.got = allocated(t.n);
+    ANSWERS(TEPLOVIST_ACCEPTED, teplovist_read_committed(image, length, t.partition, t.place, t.old, t.n));
+    for (i = 0; i < t.n; i++)
+        t.data[i] = (uint8_t)(t.old[i] + 1 + i % 5);
+    expect_begin(&t);
+    expect_write(&t, level.size);
+    expect_commit(&t);
+    expect_abandon(&t);
+    free(t.old);
+    free(t.data);
+    free(t.got);
 }
 
 /* A partition whose level 4 is external is not written. */
-static void expect_no_write(uint8_t *image, size_t length, uint64_t q) {
+static void expect_no_write(uint8_t *image, size_t length, struct level4 level) {
     uint8_t session[TEPLOVIST_SESSION_SIZE] = {0}, byte = 0;
-    REFUSED(TEPLOVIST_ACCEPTED, teplovist_begin(image, length, session));
-    REFUSED(TEPLOVIST_EXTERNAL_LEVEL, teplovist_write(image, length, session, q, 0, &byte, 1));
-    REFUSED(TEPLOVIST_ACCEPTED, teplovist_commit(image, length, session));
+    ANSWERS(TEPLOVIST_ACCEPTED, teplovist_begin(image, length, session));
+    ANSWERS(TEPLOVIST_EXTERNAL_LEVEL, teplovist_write(image, length, session, level.partition, 0, &byte, 1));
+    ANSWERS(TEPLOVIST_ACCEPTED, teplovist_commit(image, length, session));
 }
 
+/* Refusals of opening and 8, which leave description and buffer alone. */
 static void expect_refusals(const uint8_t *image, size_t length) {
-    uint64_t before[TEPLOVIST_DESCRIPTION_LENGTH];
+    uint64_t numbers[TEPLOVIST_DESCRIPTION_LENGTH], before[TEPLOVIST_DESCRIPTION_LENGTH];
     uint8_t *zeros = allocated(0x4000001), byte = 0x5A;
-    memset(description, 0xA5, sizeof description);
-    memcpy(before, description, sizeof description);
-    REFUSED(TEPLOVIST_LENGTH, teplovist_open(image, 0x1FF, description));
-    REFUSED(TEPLOVIST_LENGTH, teplovist_open(image, 0, description));
-    REFUSED(TEPLOVIST_LENGTH, teplovist_open(zeros, 0x4000001, description));
-    REFUSED(TEPLOVIST_FORMAT, teplovist_open(zeros, 0x4000000, description));
-    REFUSED(TEPLOVIST_FORMAT, teplovist_open(zeros, 0x200, description));
+    memset(numbers, 0xA5, sizeof numbers);
+    memcpy(before, numbers, sizeof numbers);
+    ANSWERS(TEPLOVIST_LENGTH, teplovist_open(image, 0x1FF, numbers));
+    ANSWERS(TEPLOVIST_LENGTH, teplovist_open(image, 0, numbers));
+    ANSWERS(TEPLOVIST_LENGTH, teplovist_open(zeros, 0x4000001, numbers));
+    ANSWERS(TEPLOVIST_FORMAT, teplovist_open(zeros, 0x4000000, numbers));
+    ANSWERS(TEPLOVIST_FORMAT, teplovist_open(zeros, 0x200, numbers));
     free(zeros);
-    expect_bytes("the description of an image that is refused", (uint8_t *)before, (uint8_t *)description, sizeof description);
-    REFUSED(TEPLOVIST_NO_PARTITION, teplovist_count_verified(image, length, 2));
-    REFUSED(TEPLOVIST_NO_PARTITION, teplovist_read_committed(image, length, UINT64_MAX, 0, &byte, 1));
+    expect_bytes("the description of an image that is refused", (uint8_t *)before, (uint8_t *)numbers, sizeof numbers);
+    ANSWERS(TEPLOVIST_NO_PARTITION, teplovist_count_verified(image, length, 2));
+    ANSWERS(TEPLOVIST_NO_PARTITION, teplovist_read_committed(image, length, UINT64_MAX, 0, &byte, 1));
     expect("the buffer of a read that is refused", 0x5A, byte);
 }
 
 static void run(uint8_t *image, size_t length) {
-    uint64_t q, count, partition[2][3];
+    uint64_t q;
     expect_description(image, length);
     if (wrong != 0)
         return; /* the numbers are not to be relied on */
-    count = description[TEPLOVIST_PARTITIONS];
-    for (q = 0; q < count; q++) {
-        const uint64_t *numbers = description + (q == 0 ? TEPLOVIST_A : TEPLOVIST_B);
-        partition[q][0] = numbers[TEPLOVIST_EXTERNAL];
-        partition[q][1] = numbers[TEPLOVIST_IVFC_LEVEL4_SIZE];
-        partition[q][2] = numbers[TEPLOVIST_IVFC_LEVEL4_LOG];
-    }
     expect_refusals(image, length);
-    for (q = 0; q < count; q++) {
-        expect_committed(image, length, q, partition[q][1], partition[q][2]);
-        if (partition[q][0])
-            expect_no_write(image, length, q);
+    for (q = 0; q < description[TEPLOVIST_PARTITIONS]; q++) {
+        struct level4 level = level4_of(q);
+        expect_committed(image, length, level);
+        expect_limits(image, length, level);
+        if (level.external)
+            expect_no_write(image, length, level);
         else
-            expect_session(image, length, q, partition[q][1], partition[q][2]);
-        expect_committed(image, length, q, partition[q][1], partition[q][2]);
+            expect_session(image, length, level);
+        expect_committed(image, length, level);
         expect_description(image, length);
     }
 }
