@@ -4,8 +4,12 @@
  * Each call works on one image that the caller lends it, decrypted and whole, and keeps nothing between calls. The 0x100 bytes at the
  * front of an image (its AES-CMAC) are neither read nor changed: the host signs again after a commit.
  *
- * A pointer and a length lend that many bytes for the call; of length 0 the pointer is not followed, but must not be null. Two arguments
- * of one call must not overlap. Any number of calls may read one image at a time; a call that changes one must be alone with it.
+ * A pointer and a length lend that many bytes for the call. Both are taken as they are, so they must be right: no pointer may be null, not
+ * even where the length is 0 (it is not followed then); the bytes must be there, in one object, so no length is above PTRDIFF_MAX; a session
+ * is 257 bytes, and a description 80 numbers, aligned as a uint64_t is. Of a call that breaks this nothing is promised, no refusal either. A
+ * length that is right, but too much, is refused: an image above 0x4000000 bytes by 1, and a buffer or data past level 4's end by 9.
+ *
+ * Two arguments of one call must not overlap. Any number of calls may read one image at a time; a call that changes one must be alone with it.
  */
 #ifndef TEPLOVIST_H
 #define TEPLOVIST_H

@@ -3,8 +3,21 @@ import os
 import re
 import sys
 
-# What counts as a definition of NAME: a declaration of antt, an item of Rattle or Rust, a function of Python or of a shell script.
-DEFINITION = r'^\s*(?:unfoldable\s+|abbrev\s+)?(?:pub\s+)?(?:(?:record|data|extern "C" fn|fn|struct|enum|const|mod|def)\s+)?{name}(?:\s*[:(\s{{]|$)'
+ITEM = r'^\s*(?:pub(?:\([a-z]+\))?\s+)?(?:extern\s+"C"\s+)?(?:fn|struct|enum|const|mod)\s+{name}(?!\w)'
+
+# What defines NAME, by the kind of file: an item of Rattle or Rust; a signature or a declaration of antt, which within a section is public
+# (an indented one without `pub` is a helper of a proof); a function of Python or of a shell script.
+DEFINITIONS = {
+    '.antt': r'^(?:(?:unfoldable\s+|abbrev\s+)?(?:pub\s+)?|\s+(?:unfoldable\s+|abbrev\s+)?pub\s+)'
+             r'(?:(?:record|data)\s+{name}(?=\s|$)|{name}\s+:(?=\s))',
+    '.rt': ITEM,
+    '.rs': ITEM,
+    '.py': r'^\s*def\s+{name}\(',
+    '.sh': r'^\s*{name}\(\)',
+}
+
+# Words that a pattern could take for a name, as `fn` in `const fn`.
+KEYWORDS = frozenset('const else enum extern fn for if impl in let loop match mod mut pub return static struct trait type use where while'.split())
 
 
 def cited(page):
@@ -14,11 +27,18 @@ def cited(page):
                 yield number, text
 
 
+def defines(path, name):
+    pattern = DEFINITIONS.get(os.path.splitext(path)[1])
+    if pattern is None or name in KEYWORDS:
+        return False
+    return re.search(pattern.format(name=re.escape(name)), open(path, encoding='utf-8').read(), re.M) is not None
+
+
 def fault(text):
-    path, _, name = text.partition('#')
+    path, mark, name = text.partition('#')
     if not os.path.exists(path):
         return f'no file {path}'
-    if name and not re.search(DEFINITION.format(name=re.escape(name)), open(path, encoding='utf-8').read(), re.M):
+    if mark and not defines(path, name):
         return f'{path} defines no {name}'
     return None
 
@@ -27,6 +47,7 @@ def main(pages):
     checked, faults = 0, []
     for page in pages:
         if not os.path.exists(page):
+            faults.append(f'no page {page}')
             continue
         for number, text in cited(page):
             checked += 1

@@ -8,17 +8,23 @@ folder=$(mktemp -d)
 trap 'rm -r "$folder"' EXIT
 failed=0 passed=0
 
-prints() { # WHAT IMAGE LINE..
-    what=$1 image=$2
-    shift 2
+prints_of_input() { # WHAT LINE..
+    what=$1
+    shift
     printf '%s\n' "$@" >"$folder/expected"
-    target/bin/describe <"$image" >"$folder/printed" || echo "status $?" >>"$folder/printed"
+    target/bin/describe >"$folder/printed" || echo "status $?" >>"$folder/printed"
     if cmp -s "$folder/expected" "$folder/printed"; then
         passed=$((passed + 1))
     else
         echo "describe: $what: expected, and printed:"
         diff "$folder/expected" "$folder/printed" || failed=$((failed + 1))
     fi
+}
+
+prints() { # WHAT IMAGE LINE..
+    what=$1 image=$2
+    shift 2
+    prints_of_input "$what" "$@" <"$image"
 }
 
 zeros() { head -c "$1" /dev/zero; }
@@ -64,6 +70,11 @@ mkfifo "$folder/pipe"
 prints 'in two pieces' "$folder/pipe" DISA 'partitions 2' 'table secondary' \
     'A level4 5000 blocks 20 stands 15' 'B level4 5000 blocks 20 stands 20'
 wait
+
+# Standard input that cannot be read: closed, a folder, and open for writing alone.
+prints_of_input 'a closed input' 'cannot read' <&-
+prints 'a folder' "$folder" 'cannot read'
+prints_of_input 'an input that is open for writing alone' 'cannot read' 0>"$folder/image"
 
 echo "describe: $passed right, $failed wrong"
 [ "$failed" -eq 0 ]

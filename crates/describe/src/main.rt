@@ -16,6 +16,12 @@ use steps::Count;
 
 const LONGEST_INPUT: usize = 65_536;
 
+// What came from standard input: so many bytes, or a read failed.
+enum Input {
+    Bytes(usize),
+    Failed,
+}
+
 fn print(text: &[u8]) {
     io::write_all(STDOUT_FILENO, text);
 }
@@ -89,9 +95,30 @@ fn describe(image: &[u8]) {
     }
 }
 
+// Takes standard input until the buffer is full or the input ends.
+fn take_input(buffer: &mut [u8]) -> Input {
+    let mut n = 0;
+    while n < buffer.len() {
+        let got = libc::read(STDIN_FILENO, &mut buffer[n..]);
+        if got < 0 {
+            return Input::Failed;
+        }
+        let more = io::count(got, &buffer[n..]);
+        if more == 0 {
+            return Input::Bytes(n);
+        }
+        n += more;
+    }
+    Input::Bytes(n)
+}
+
 fn main() {
     let mut buffer = [0u8; 65_537];
-    let n = io::read_full(STDIN_FILENO, &mut buffer);
+    let input = take_input(&mut buffer);
+    let Input::Bytes(n) = input else {
+        print(b"cannot read\n");
+        return;
+    };
     if LONGEST_INPUT < n {
         print(b"too long\n");
         return;

@@ -60,6 +60,14 @@ pub fn patient(random: &mut Random, wanted: &Wanted) -> Patient {
     Patient { image: sample.image, opened: sample.opened, target }
 }
 
+/// Gives DPFS level 2 or 3 one block more. Where its bits were full and there is room, too few bits are all that is wrong.
+pub fn add_block(patient: &mut Patient, level: usize) {
+    let descriptor = &patient.partition().descriptor;
+    let (grown, unit) = if level == 2 { (descriptor.level2, 4) } else { (descriptor.level3, 1) };
+    let size = grown.blocks() * grown.block_size() + unit;
+    patient.set(patient.dpfs_level(level)[1], size as u64);
+}
+
 /// The places of the header's fields: table offsets, table size, and by partition descriptor and area.
 struct HeaderFields {
     secondary: usize,

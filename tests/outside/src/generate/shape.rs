@@ -23,6 +23,9 @@ pub struct Wanted {
     pub tight: bool,
     /// Every block is verified.
     pub all_verified: bool,
+    /// No bit to spare: DPFS level 2 has a block for each bit of a half of level 1, and level 3 one for each bit of a half of
+    /// level 2; both have room for one block more. Level 4 must be small enough for the level 3 that comes of it.
+    pub full_bits: bool,
 }
 
 /// Everything that opening will say of the image, and the image's length.
@@ -126,11 +129,17 @@ fn draft_partition(random: &mut Random, gaps: &mut Gaps, wanted: &Wanted) -> Dra
     }
 
     // The three pairs and an external level 4 in the partition.
-    let level3_log = if wanted.tight { TIGHT_LEVEL3_LOG } else { choose_log(random, wanted, 5) };
-    let level2_size = bits_for(random, wanted, level3_size.div_ceil(1 << level3_log));
-    let level2_log = choose_log(random, wanted, 2);
-    let level1_size = bits_for(random, wanted, level2_size.div_ceil(1 << level2_log));
-    let mut sizes = vec![2 * level1_size, 2 * level2_size, 2 * level3_size];
+    let bits = if wanted.full_bits {
+        let bits = full_bits(random);
+        let rest = bits.level3.0.checked_sub(level3_size).expect("level 4 is small enough");
+        hash_levels[..inside].iter_mut().for_each(|level| level.extent.offset += rest);
+        bits
+    } else {
+        spacious_bits(random, wanted, level3_size)
+    };
+    let BitLevels { level1: level1_size, level2: (level2_size, level2_log), level3: (level3_size, level3_log) } = bits;
+    let room = |log: u64| if wanted.full_bits { 1 << log } else { 0 };
+    let mut sizes = vec![2 * level1_size, 2 * (level2_size + room(level2_log)), 2 * (level3_size + room(level3_log))];
     if external {
         sizes.push(hash_levels[3].extent.size);
     }
@@ -154,6 +163,37 @@ fn draft_partition(random: &mut Random, gaps: &mut Gaps, wanted: &Wanted) -> Dra
         descriptor_size,
         area_size,
     }
+}
+
+/// The sizes of DPFS levels 1 to 3, and the logarithms of the last two.
+struct BitLevels {
+    level1: u128,
+    level2: (u128, u64),
+    level3: (u128, u64),
+}
+
+/// Levels around a level 3 of that size, with spare bits now and then.
+fn spacious_bits(random: &mut Random, wanted: &Wanted, level3_size: u128) -> BitLevels {
+    let level3_log = if wanted.tight { TIGHT_LEVEL3_LOG } else { choose_log(random, wanted, 5) };
+    let level2_size = bits_for(random, wanted, level3_size.div_ceil(1 << level3_log));
+    let level2_log = choose_log(random, wanted, 2);
+    let level1_size = bits_for(random, wanted, level2_size.div_ceil(1 << level2_log));
+    BitLevels { level1: level1_size, level2: (level2_size, level2_log), level3: (level3_size, level3_log) }
+}
+
+/// Small levels of which every bit names a block.
+fn full_bits(random: &mut Random) -> BitLevels {
+    let level1 = 4;
+    let level2_log = random.between(2, 3);
+    let level2 = size_of_blocks(random, 8 * level1, level2_log, 4);
+    let level3_log = 5;
+    let level3 = size_of_blocks(random, 8 * level2, level3_log, 1);
+    BitLevels { level1, level2: (level2, level2_log), level3: (level3, level3_log) }
+}
+
+/// The size, a multiple of `unit`, of a level with exactly so many blocks; the last one may be short.
+fn size_of_blocks(random: &mut Random, blocks: u128, log: u64, unit: u64) -> u128 {
+    (blocks - 1) * (1 << log) + u128::from(unit * random.between(1, (1 << log) / unit))
 }
 
 /// Sizes and logarithms of IVFC levels 1 to 4, from level 4 upwards. The offsets come later.

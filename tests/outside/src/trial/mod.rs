@@ -1,6 +1,7 @@
 //! Random cases: lists of calls on valid images, damaged images, and images with random changes.
 
 pub mod call;
+mod full_bits;
 pub mod list;
 pub mod properties;
 mod rows;
@@ -52,7 +53,7 @@ pub fn run_case(seed: u64, subject: Option<&dyn Subject>, tally: &mut Tally) -> 
 /// How often every run tries each damage, so that each of its values comes up.
 const TRIES_OF_EACH_DAMAGE: u64 = 40;
 
-/// Cases that every run must have tried: each damage, and the limits of an image's length.
+/// Cases that every run must have tried: each damage, levels of bits that are full, and the limits of an image's length.
 pub fn run_fixed_cases(subject: Option<&dyn Subject>, tally: &mut Tally) -> Result<(), String> {
     let random = &mut Random::new(0);
     for damage in DAMAGES {
@@ -62,6 +63,7 @@ pub fn run_fixed_cases(subject: Option<&dyn Subject>, tally: &mut Tally) -> Resu
                 .map_err(|complaint| format!("{}: {complaint}", damage.name))?;
         }
     }
+    full_bits::run(subject, tally)?;
     let mut image = valid_image(&mut Random::new(0), &Wanted::default()).image;
     for (length, number) in [(LONGEST_IMAGE, 0), (LONGEST_IMAGE + 1, 1)] {
         image.resize(length, 0x55);

@@ -1,0 +1,417 @@
+/*
+ * session IMAGE..: for each image compares every number of its description with the image's own bytes, read at the offsets that the paper
+ * prints, and runs a whole session on it. It knows the library by include/teplovist.h alone. Prints what differs and ends with 1, or says
+ * how much it compared. No two names of the description may have the same numbers in all images: they could be exchanged unseen.
+ */
+#include <stdio.h>
+#include <stdlib.h>
+#include <string.h>
+
+#include "teplovist.h"
+
+static unsigned compared, wrong;
+static const char *image_name;
+
+static void expect(const char *what, uint64_t wanted, uint64_t got) {
+    compared++;
+    if (wanted == got)
+        return;
+    wrong++;
+    printf("%s: %s: expected 0x%llx, got 0x%llx\n", image_name, what, (unsigned long long)wanted, (unsigned long long)got);
+}
+
+static void expect_bytes(const char *what, const uint8_t *wanted, const uint8_t *got, size_t length) {
+    expect(what, 0, length != 0 && memcmp(wanted, got, length) != 0);
+}
+
+/* ---- the fields, by the paper's tables */
+
+static uint64_t field(const uint8_t *bytes, size_t at, size_t width) {
+    uint64_t value = 0;
+    while (width-- > 0)
+        value = value << 8 | bytes[at + width];
+    return value;
+}
+
+/* A header's fields; where a kind has none of its own, the value stands here. */
+struct header {
+    uint64_t kind, count, flag, secondary, primary, table_size;
+    struct slot {
+        uint64_t descriptor, descriptor_size, partition, partition_size;
+    } slots[2];
+};
+
+static struct header disa_header(const uint8_t *h) {
+    struct header header = {0, field(h, 0x08, 4), field(h, 0x68, 1), field(h, 0x10, 8), field(h, 0x18, 8), field(h, 0x20, 8), {
+        {field(h, 0x28, 8), field(h, 0x30, 8), field(h, 0x48, 8), field(h, 0x50, 8)},
+        {field(h, 0x38, 8), field(h, 0x40, 8), field(h, 0x58, 8), field(h, 0x60, 8)}}};
+    return header;
+}
+
+static struct header diff_header(const uint8_t *h) {
+    struct header header = {1, 1, field(h, 0x30, 4), field(h, 0x08, 8), field(h, 0x10, 8), field(h, 0x18, 8), {
+        {0, field(h, 0x18, 8), field(h, 0x20, 8), field(h, 0x28, 8)},
+        {0, 0, 0, 0}}};
+    return header;
+}
+
+static struct header header_of(const uint8_t *image) {
+    return memcmp(image + 0x100, "DISA", 4) == 0 ? disa_header(image + 0x100) : diff_header(image + 0x100);
+}
+
+/* ---- the description, index by index */
+
+static uint64_t description[TEPLOVIST_DESCRIPTION_LENGTH];
+static int named[TEPLOVIST_DESCRIPTION_LENGTH];
+
+static void expect_number(const char *name, size_t index, uint64_t wanted) {
+    expect(name, wanted, description[index]);
+    named[index] = 1;
+}
+
+/* What was expected under each name, in the order of the images, to tell whether two names could be exchanged unseen. */
+#define MOST_SEEN 32
+struct names {
+    size_t count;
+    struct {
+        const char *name;
+        size_t length;
+        uint64_t values[MOST_SEEN];
+    } rows[TEPLOVIST_DESCRIPTION_LENGTH];
+};
+static struct names header_names, partition_names;
+
+static void keep(struct names *names, const char *name, uint64_t wanted) {
+    size_t i = 0;
+    while (i < names->count && strcmp(names->rows[i].name, name) != 0)
+        i++;
+    if (i == names->count)
+        names->rows[names->count++].name = name;
+    if (names->rows[i].length < MOST_SEEN)
+        names->rows[i].values[names->rows[i].length++] = wanted;
+}
+
+/* Two names have the same numbers in every image. */
+static int alike(const struct names *names, size_t i, size_t j) {
+    return memcmp(names->rows[i].values, names->rows[j].values, names->rows[i].length * sizeof(uint64_t)) == 0;
+}
+
+/* How many pairs are alike; each is printed. */
+static unsigned pairs_alike(const struct names *names) {
+    unsigned pairs = 0;
+    size_t i, j;
+    for (i = 0; i < names->count; i++)
+        for (j = 0; j < i; j++)
+            if (alike(names, i, j)) {
+                printf("alike in every image: %s, %s\n", names->rows[j].name, names->rows[i].name);
+                pairs++;
+            }
+    return pairs;
+}
+
+#define HEADER_NUMBER(index, wanted) (keep(&header_names, #index, wanted), expect_number(#index, index, wanted))
+#define PARTITION_NUMBER(index, wanted) (keep(&partition_names, #index, wanted), expect_number(#index, base + index, wanted))
+
+static void expect_header(const struct header *h) {
+    HEADER_NUMBER(TEPLOVIST_KIND, h->kind);
+    HEADER_NUMBER(TEPLOVIST_PARTITIONS, h->count);
+    HEADER_NUMBER(TEPLOVIST_ACTIVE_TABLE, h->flag);
+    HEADER_NUMBER(TEPLOVIST_SECONDARY_OFFSET, h->secondary);
+    HEADER_NUMBER(TEPLOVIST_SECONDARY_SIZE, h->table_size);
+    HEADER_NUMBER(TEPLOVIST_PRIMARY_OFFSET, h->primary);
+    expect_number("TEPLOVIST_PRIMARY_SIZE", TEPLOVIST_PRIMARY_SIZE, h->table_size); /* the same field, so alike */
+}
+
+static void expect_difi(size_t base, const struct slot *slot, const uint8_t *difi) {
+    int external = difi[0x38] != 0;
+    PARTITION_NUMBER(TEPLOVIST_DESCRIPTOR_OFFSET, slot->descriptor);
+    PARTITION_NUMBER(TEPLOVIST_DESCRIPTOR_SIZE, slot->descriptor_size);
+    PARTITION_NUMBER(TEPLOVIST_PARTITION_OFFSET, slot->partition);
+    PARTITION_NUMBER(TEPLOVIST_PARTITION_SIZE, slot->partition_size);
+    PARTITION_NUMBER(TEPLOVIST_IVFC_OFFSET, field(difi, 0x08, 8));
+    PARTITION_NUMBER(TEPLOVIST_IVFC_SIZE, field(difi, 0x10, 8));
+    PARTITION_NUMBER(TEPLOVIST_DPFS_OFFSET, field(difi, 0x18, 8));
+    PARTITION_NUMBER(TEPLOVIST_DPFS_SIZE, field(difi, 0x20, 8));
+    PARTITION_NUMBER(TEPLOVIST_MASTER_HASH_OFFSET, field(difi, 0x28, 8));
+    PARTITION_NUMBER(TEPLOVIST_MASTER_HASH_SIZE, field(difi, 0x30, 8));
+    PARTITION_NUMBER(TEPLOVIST_EXTERNAL, external ? 1 : 0);
+    PARTITION_NUMBER(TEPLOVIST_SELECTOR, field(difi, 0x39, 1));
+    PARTITION_NUMBER(TEPLOVIST_EXTERNAL_OFFSET, external ? field(difi, 0x3C, 8) : 0);
+}
+
+static void expect_ivfc(size_t base, int external, const uint8_t *ivfc) {
+    PARTITION_NUMBER(TEPLOVIST_IVFC_LEVEL1_OFFSET, field(ivfc, 0x10, 8));
+    PARTITION_NUMBER(TEPLOVIST_IVFC_LEVEL1_SIZE, field(ivfc, 0x18, 8));
+    PARTITION_NUMBER(TEPLOVIST_IVFC_LEVEL1_LOG, field(ivfc, 0x20, 8));
+    PARTITION_NUMBER(TEPLOVIST_IVFC_LEVEL2_OFFSET, field(ivfc, 0x28, 8));
+    PARTITION_NUMBER(TEPLOVIST_IVFC_LEVEL2_SIZE, field(ivfc, 0x30, 8));
+    PARTITION_NUMBER(TEPLOVIST_IVFC_LEVEL2_LOG, field(ivfc, 0x38, 8));
+    PARTITION_NUMBER(TEPLOVIST_IVFC_LEVEL3_OFFSET, field(ivfc, 0x40, 8));
+    PARTITION_NUMBER(TEPLOVIST_IVFC_LEVEL3_SIZE, field(ivfc, 0x48, 8));
+    PARTITION_NUMBER(TEPLOVIST_IVFC_LEVEL3_LOG, field(ivfc, 0x50, 8));
+    PARTITION_NUMBER(TEPLOVIST_IVFC_LEVEL4_OFFSET, external ? 0 : field(ivfc, 0x58, 8));
+    PARTITION_NUMBER(TEPLOVIST_IVFC_LEVEL4_SIZE, field(ivfc, 0x60, 8));
+    PARTITION_NUMBER(TEPLOVIST_IVFC_LEVEL4_LOG, field(ivfc, 0x68, 8));
+}
+
+static void expect_dpfs(size_t base, const uint8_t *dpfs) {
+    PARTITION_NUMBER(TEPLOVIST_DPFS_LEVEL1_OFFSET, field(dpfs, 0x08, 8));
+    PARTITION_NUMBER(TEPLOVIST_DPFS_LEVEL1_SIZE, field(dpfs, 0x10, 8));
+    PARTITION_NUMBER(TEPLOVIST_DPFS_LEVEL2_OFFSET, field(dpfs, 0x20, 8));
+    PARTITION_NUMBER(TEPLOVIST_DPFS_LEVEL2_SIZE, field(dpfs, 0x28, 8));
+    PARTITION_NUMBER(TEPLOVIST_DPFS_LEVEL2_LOG, field(dpfs, 0x30, 8));
+    PARTITION_NUMBER(TEPLOVIST_DPFS_LEVEL3_OFFSET, field(dpfs, 0x38, 8));
+    PARTITION_NUMBER(TEPLOVIST_DPFS_LEVEL3_SIZE, field(dpfs, 0x40, 8));
+    PARTITION_NUMBER(TEPLOVIST_DPFS_LEVEL3_LOG, field(dpfs, 0x48, 8));
+}
+
+/* Opens the image and compares all 80 numbers: by name, or with 0 where no name has the index. */
+static void expect_description(const uint8_t *image, size_t length) {
+    struct header h = header_of(image);
+    uint64_t q;
+    size_t i;
+    memset(description, 0xA5, sizeof description);
+    memset(named, 0, sizeof named);
+    expect("open", TEPLOVIST_ACCEPTED, teplovist_open(image, length, description));
+    expect_header(&h);
+    for (q = 0; q < h.count; q++) {
+        const uint8_t *difi = image + (h.flag == 0 ? h.primary : h.secondary) + h.slots[q].descriptor;
+        size_t base = q == 0 ? TEPLOVIST_A : TEPLOVIST_B;
+        expect_difi(base, &h.slots[q], difi);
+        expect_ivfc(base, difi[0x38] != 0, difi + field(difi, 0x08, 8));
+        expect_dpfs(base, difi + field(difi, 0x18, 8));
+    }
+    for (i = 0; i < TEPLOVIST_DESCRIPTION_LENGTH; i++)
+        if (!named[i])
+            expect("a number that has no name", 0, description[i]);
+}
+
+/* ---- the calls */
+
+/* That many zero bytes, an allocation of their own, so that a tool like valgrind sees a step outside. */
+static void *allocated(size_t length) {
+    void *bytes = calloc(length + !length, 1);
+    if (!bytes) {
+        printf("no memory\n");
+        exit(1);
+    }
+    return bytes;
+}
+
+/* A call whose whole answer is a refusal's number, or 0. */
+#define ANSWERS(number, call) expect(#call, number, call)
+
+/* A partition's level 4. */
+struct level4 {
+    uint64_t partition, external, size, log;
+};
+
+static struct level4 level4_of(uint64_t partition) {
+    const uint64_t *numbers = description + (partition == 0 ? TEPLOVIST_A : TEPLOVIST_B);
+    struct level4 level = {partition, numbers[TEPLOVIST_EXTERNAL], numbers[TEPLOVIST_IVFC_LEVEL4_SIZE], numbers[TEPLOVIST_IVFC_LEVEL4_LOG]};
+    return level;
+}
+
+static uint64_t blocks_of(struct level4 level) {
+    return (level.size + ((uint64_t)1 << level.log) - 1) >> level.log;
+}
+
+/* The first block of which "is it verified" says no or yes, else the number of blocks. */
+static uint64_t first_block(const uint8_t *image, size_t length, struct level4 level, uint64_t said) {
+    uint64_t b = 0;
+    while (b < blocks_of(level) && teplovist_verified(image, length, level.partition, b) != said << 8)
+        b++;
+    return b;
+}
+
+/* The count is that of the blocks that are verified, and a read of all of level 4 is accepted or names the first that is not. */
+static void expect_committed(const uint8_t *image, size_t length, struct level4 level) {
+    uint64_t blocks = blocks_of(level), b, answer, verified = 0, first = first_block(image, length, level, 0);
+    uint8_t *buffer = allocated(level.size);
+    for (b = 0; b < blocks; b++) {
+        answer = teplovist_verified(image, length, level.partition, b);
+        expect("verified", TEPLOVIST_ACCEPTED, TEPLOVIST_REFUSAL(answer));
+        verified += TEPLOVIST_VALUE(answer);
+    }
+    answer = teplovist_count_verified(image, length, level.partition);
+    expect("count_verified", TEPLOVIST_ACCEPTED, TEPLOVIST_REFUSAL(answer));
+    expect("the count", verified, TEPLOVIST_VALUE(answer));
+    answer = teplovist_read_committed(image, length, level.partition, 0, buffer, level.size);
+    expect("read_committed", first == blocks ? TEPLOVIST_ACCEPTED : TEPLOVIST_UNVERIFIED, TEPLOVIST_REFUSAL(answer));
+    expect("the block that is refused", first == blocks ? 0 : first, TEPLOVIST_VALUE(answer));
+    free(buffer);
+}
+
+static void expect_limits(const uint8_t *image, size_t length, struct level4 level) {
+    uint8_t *buffer = allocated(level.size + 1);
+    ANSWERS(TEPLOVIST_OUT_OF_RANGE, teplovist_verified(image, length, level.partition, blocks_of(level)));
+    ANSWERS(TEPLOVIST_OUT_OF_RANGE, teplovist_read_committed(image, length, level.partition, 0, buffer, level.size + 1));
+    ANSWERS(TEPLOVIST_OUT_OF_RANGE, teplovist_read_committed(image, length, level.partition, level.size, buffer, 1));
+    ANSWERS(TEPLOVIST_OUT_OF_RANGE, teplovist_read_committed(image, length, level.partition, UINT64_MAX, buffer, 1));
+    ANSWERS(TEPLOVIST_ACCEPTED, teplovist_read_committed(image, length, level.partition, level.size, buffer, 0));
+    free(buffer);
+}
+
+/* ---- sessions */
+
+/* A session on one block: what it held, what is written to it, and a buffer to read it back. */
+struct trial {
+    uint8_t *image;
+    size_t length, n;
+    uint64_t partition, place;
+    uint8_t *old, *data, *got;
+    uint8_t session[TEPLOVIST_SESSION_SIZE];
+};
+
+static const uint8_t idle[TEPLOVIST_SESSION_SIZE];
+
+static void expect_read(const struct trial *t, const char *what, const uint8_t *wanted) {
+    ANSWERS(TEPLOVIST_ACCEPTED, teplovist_read_committed(t->image, t->length, t->partition, t->place, t->got, t->n));
+    expect_bytes(what, wanted, t->got, t->n);
+}
+
+static void expect_begin(struct trial *t) {
+    ANSWERS(TEPLOVIST_SESSION_STATE, teplovist_commit(t->image, t->length, t->session));
+    ANSWERS(TEPLOVIST_SESSION_STATE, teplovist_abandon(t->session));
+    ANSWERS(TEPLOVIST_ACCEPTED, teplovist_begin(t->image, t->length, t->session));
+    expect("the session is begun", 1, t->session[0]);
+    expect_bytes("the session's header", t->image + 0x100, t->session + 1, 256);
+    ANSWERS(TEPLOVIST_SESSION_STATE, teplovist_begin(t->image, t->length, t->session));
+}
+
+static void expect_write(struct trial *t, uint64_t size) {
+    ANSWERS(TEPLOVIST_ACCEPTED, teplovist_write(t->image, t->length, t->session, t->partition, t->place, t->data, t->n));
+    ANSWERS(TEPLOVIST_ACCEPTED, teplovist_read_staged(t->image, t->length, t->session, t->partition, t->place, t->got, t->n));
+    expect_bytes("the staged bytes", t->data, t->got, t->n);
+    expect_read(t, "the committed bytes before the commit", t->old);
+    ANSWERS(TEPLOVIST_OUT_OF_RANGE, teplovist_write(t->image, t->length, t->session, t->partition, size, t->data, 1));
+    ANSWERS(TEPLOVIST_NO_PARTITION, teplovist_write(t->image, t->length, t->session, 2, 0, t->data, 1));
+}
+
+static void expect_commit(struct trial *t) {
+    uint64_t flag = header_of(t->image).flag;
+    uint8_t other[TEPLOVIST_SESSION_SIZE];
+    memcpy(other, t->session, sizeof other);
+    other[sizeof other - 1] ^= 1;
+    ANSWERS(TEPLOVIST_STALE, teplovist_commit(t->image, t->length, other));
+    ANSWERS(TEPLOVIST_ACCEPTED, teplovist_commit(t->image, t->length, t->session));
+    expect_bytes("the session after a commit", idle, t->session, sizeof idle);
+    expect("the flag after a commit", 1 - flag, header_of(t->image).flag);
+    expect_read(t, "the committed bytes after the commit", t->data);
+    ANSWERS(TEPLOVIST_SESSION_STATE, teplovist_read_staged(t->image, t->length, t->session, t->partition, t->place, t->got, t->n));
+}
+
+static void expect_abandon(struct trial *t) {
+    uint8_t front[0x200];
+    memcpy(front, t->image, sizeof front);
+    ANSWERS(TEPLOVIST_ACCEPTED, teplovist_begin(t->image, t->length, t->session));
+    ANSWERS(TEPLOVIST_ACCEPTED, teplovist_write(t->image, t->length, t->session, t->partition, t->place, t->old, t->n));
+    ANSWERS(TEPLOVIST_ACCEPTED, teplovist_abandon(t->session));
+    expect_bytes("the session after an abandon", idle, t->session, sizeof idle);
+    expect_bytes("the header after an abandon", front, t->image, sizeof front);
+    expect_read(t, "the committed bytes after an abandon", t->data);
+}
+
+/* Writes the first verified block of a partition, commits it, and abandons another write. */
+static void expect_session(uint8_t *image, size_t length, struct level4 level) {
+    struct trial t = {0};
+    uint64_t block = (uint64_t)1 << level.log;
+    size_t i;
+    t.image = image;
+    t.length = length;
+    t.partition = level.partition;
+    t.place = first_block(image, length, level, 1) * block;
+    expect("a verified block is there", 1, t.place < level.size);
+    t.n = level.size - t.place < block ? level.size - t.place : block;
+    t.old = allocated(t.n);
+    t.data = allocated(t.n);
+    t.got = allocated(t.n);
+    ANSWERS(TEPLOVIST_ACCEPTED, teplovist_read_committed(image, length, t.partition, t.place, t.old, t.n));
+    for (i = 0; i < t.n; i++)
+        t.data[i] = (uint8_t)(t.old[i] + 1 + i % 5);
+    expect_begin(&t);
+    expect_write(&t, level.size);
+    expect_commit(&t);
+    expect_abandon(&t);
+    free(t.old);
+    free(t.data);
+    free(t.got);
+}
+
+/* A partition whose level 4 is external is not written. */
+static void expect_no_write(uint8_t *image, size_t length, struct level4 level) {
+    uint8_t session[TEPLOVIST_SESSION_SIZE] = {0}, byte = 0;
+    ANSWERS(TEPLOVIST_ACCEPTED, teplovist_begin(image, length, session));
+    ANSWERS(TEPLOVIST_EXTERNAL_LEVEL, teplovist_write(image, length, session, level.partition, 0, &byte, 1));
+    ANSWERS(TEPLOVIST_ACCEPTED, teplovist_commit(image, length, session));
+}
+
+/* Refusals of opening and 8, which leave description and buffer alone. */
+static void expect_refusals(const uint8_t *image, size_t length) {
+    uint64_t numbers[TEPLOVIST_DESCRIPTION_LENGTH], before[TEPLOVIST_DESCRIPTION_LENGTH];
+    uint8_t *zeros = allocated(0x4000001), byte = 0x5A;
+    memset(numbers, 0xA5, sizeof numbers);
+    memcpy(before, numbers, sizeof numbers);
+    ANSWERS(TEPLOVIST_LENGTH, teplovist_open(image, 0x1FF, numbers));
+    ANSWERS(TEPLOVIST_LENGTH, teplovist_open(image, 0, numbers));
+    ANSWERS(TEPLOVIST_LENGTH, teplovist_open(zeros, 0x4000001, numbers));
+    ANSWERS(TEPLOVIST_FORMAT, teplovist_open(zeros, 0x4000000, numbers));
+    ANSWERS(TEPLOVIST_FORMAT, teplovist_open(zeros, 0x200, numbers));
+    free(zeros);
+    expect_bytes("the description of an image that is refused", (uint8_t *)before, (uint8_t *)numbers, sizeof numbers);
+    ANSWERS(TEPLOVIST_NO_PARTITION, teplovist_count_verified(image, length, 2));
+    ANSWERS(TEPLOVIST_NO_PARTITION, teplovist_read_committed(image, length, UINT64_MAX, 0, &byte, 1));
+    expect("the buffer of a read that is refused", 0x5A, byte);
+}
+
+static void run(uint8_t *image, size_t length) {
+    uint64_t q;
+    expect_description(image, length);
+    if (wrong != 0)
+        return; /* the numbers are not to be relied on */
+    expect_refusals(image, length);
+    for (q = 0; q < description[TEPLOVIST_PARTITIONS]; q++) {
+        struct level4 level = level4_of(q);
+        expect_committed(image, length, level);
+        expect_limits(image, length, level);
+        if (level.external)
+            expect_no_write(image, length, level);
+        else
+            expect_session(image, length, level);
+        expect_committed(image, length, level);
+        expect_description(image, length);
+    }
+}
+
+/* The file's bytes; a sample is shorter than 64 KiB. */
+static uint8_t *load(const char *path, size_t *length) {
+    static uint8_t buffer[0x10000];
+    FILE *file = fopen(path, "rb");
+    uint8_t *image;
+    if (!file)
+        return NULL;
+    *length = fread(buffer, 1, sizeof buffer, file);
+    fclose(file);
+    image = allocated(*length);
+    memcpy(image, buffer, *length);
+    return image;
+}
+
+int main(int count, char **arguments) {
+    int i;
+    for (i = 1; i < count; i++) {
+        size_t length = 0;
+        uint8_t *image = load(arguments[i], &length);
+        image_name = arguments[i];
+        if (!image) {
+            printf("%s: cannot be read\n", image_name);
+            return 1;
+        }
+        run(image, length);
+        free(image);
+    }
+    image_name = "the images";
+    expect("pairs of names that are alike", 0, pairs_alike(&header_names) + pairs_alike(&partition_names));
+    printf("session: %d images, %u compared, %u wrong\n", count - 1, compared, wrong);
+    return wrong != 0 || count < 2;
+}
