@@ -55,6 +55,8 @@ class Flow:
             self.stores.append(one)
         if not isinstance(one, Assign):
             handed = frozenset(at for at, place in enumerate(one.arguments, 1) if place and self._carried(place))
+            if any(self.function.kind_of(one.arguments[at - 1]) == ('pointer',) for at in handed):
+                raise Unknown(f'{self.function.name} hands on a pointer that is no reference: {one}')
             if handed:
                 self.calls.append((one, handed))
 
@@ -81,15 +83,26 @@ class Flows:
         """The calls that hand the image to a function in that way: caller and call."""
         return [(caller, call) for caller, flow in self.flows.items() for call, handed in flow.calls if (call.callee, handed) == key]
 
-    def lenders(self):
-        """Who hands the image on by `&mut`, to whom, and by how many calls."""
-        links = {}
-        for (name, _), flow in self.flows.items():
+    def lending(self):
+        """The calls that hand the image on by `&mut`, or to a function by which it is stored to: the caller, the call, the places of the image."""
+        storing, grown = set(self.stores()), True
+        while grown:
+            more = {key for key, flow in self.flows.items() if any((call.callee, handed) in storing for call, handed in flow.calls)}
+            grown = not more <= storing
+            storing |= more
+        for key, flow in self.flows.items():
             for call, handed in flow.calls:
-                kinds = [flow.function.kind_of(call.arguments[at - 1]) for at in handed]
-                if any(self.program.types.carries_mutable(kind) for kind in kinds):
-                    links[name, call.callee] = links.get((name, call.callee), 0) + 1
-        return links
+                lent = [call.arguments[at - 1] for at in handed]
+                mutable = any(self.program.types.carries_mutable(flow.function.kind_of(place)) for place in lent)
+                if mutable or (call.callee, handed) in storing:
+                    yield key, call, lent
+
+    def links(self):
+        """Who lends the image so, to whom, and by how many calls."""
+        found = {}
+        for (name, _), call, _ in self.lending():
+            found[name, call.callee] = found.get((name, call.callee), 0) + 1
+        return found
 
 
 def whole_slices(function, parameter):

@@ -1,5 +1,7 @@
 """The compiler's MIR, read into functions, types and statements. What a reader of MIR must know stands in the kit's logic/Mir/Syntax.antt; a form
 that is not understood here raises Unknown, so that nothing is passed over."""
+import functools
+import os
 import pathlib
 import re
 import subprocess
@@ -31,25 +33,27 @@ def library_crates(root):
     return crates, sorted(named - set(crates))
 
 
-def kit_folder():
+@functools.cache
+def kit():
+    """The kit's folder, and its program that prints MIR."""
     guide = subprocess.run(['rt', 'doc'], capture_output=True, text=True, check=True).stdout.strip()
-    return pathlib.Path(guide).parent.parent
+    folder = pathlib.Path(guide).parent.parent
+    return folder, folder / 'on' / os.uname().machine / 'bin' / 'rattle-print-mir'
 
 
 def mir_text(root):
     """The MIR of every library crate below a folder, every library given as source: nothing is proved, and no target/ is read."""
-    kit = kit_folder()
-    machine = subprocess.run(['uname', '-m'], capture_output=True, text=True, check=True).stdout.strip()
+    folder_of_kit, print_mir = kit()
     crates, of_kit = library_crates(root)
     words = []
     for name in crates:
         words += ['--lib', f'{name}={root}/crates/{name}/src/lib.rt']
     for name in ['std', *of_kit]:
-        words += ['--lib', f'{name}={kit}/libs/{name}/src/lib.rt']
+        words += ['--lib', f'{name}={folder_of_kit}/libs/{name}/src/lib.rt']
     with tempfile.TemporaryDirectory() as folder:
         main = pathlib.Path(folder) / 'main.rt'
         main.write_text('fn main() {}\n')
-        run = subprocess.run([f'{kit}/on/{machine}/bin/rattle-print-mir', str(main), '--crate-name', 'no_program', *words], capture_output=True, text=True)
+        run = subprocess.run([print_mir, main, '--crate-name', 'no_program', *words], capture_output=True, text=True)
     if run.returncode:
         raise Refused(run.stderr.strip())
     return run.stdout

@@ -77,11 +77,15 @@ PINNED = {
         return''',
 }
 
+# A function with its contract, and the definition that the contract cites, by the module that it comes from.
 CONTRACTS = [
-    ('dpfs/src/staging.rt', 'ghost use Rattle.dpfs.specs.Free.{Free};'),
-    ('dpfs/src/staging.rt', 'pub fn store(space: Space, image: &mut [u8], i: u64, value: u8) requires { ⌜ (Free space (now image) i) × (i < length (now image)) ⌝ }'),
-    ('views/src/places.rt', 'pub fn space_of(c: Container) -> Space requires { ⌜ SpaceFits c ⌝ } ensures { λ r. ⌜ r ≡ spaceOf c ⌝ }'),
-    ('layout/src/opening.rt', 'pub fn open(image: &[u8]) -> Opened ensures { λ r. ⌜ r ≡ opened (now (image .entry)) ⌝ }'),
+    ('dpfs/src/staging.rt',
+     'pub fn store(space: Space, image: &mut [u8], i: u64, value: u8) requires { ⌜ (Free space (now image) i) × (i < length (now image)) ⌝ }',
+     'Rattle.dpfs.specs.Free', 'Free'),
+    ('views/src/places.rt', 'pub fn space_of(c: Container) -> Space requires { ⌜ SpaceFits c ⌝ } ensures { λ r. ⌜ r ≡ spaceOf c ⌝ }',
+     'Rattle.views.specs.Places', 'spaceOf'),
+    ('layout/src/opening.rt', 'pub fn open(image: &[u8]) -> Opened ensures { λ r. ⌜ r ≡ opened (now (image .entry)) ⌝ }',
+     'Rattle.layout.specs.Opening', 'opened'),
 ]
 
 
@@ -116,7 +120,8 @@ class Findings:
     def lent_parameters(self):
         for function in self.public():
             lent = {at for at in function.parameters if self.types.carries_mutable(function.locals[at])}
-            self.rule(lent == set(LENT.get(function.name, {})), f'{function.name}: a public call that is lent other parameters than those known: {sorted(lent)}')
+            known = set(LENT.get(function.name, {}))
+            self.rule(lent == known, f'{function.name}: a public call that is lent other parameters than those known: {sorted(lent)}')
         for name in LENT:
             self.rule(name in self.program.functions, f'{name}: there is no such call')
         declared = set(re.findall(r'^uint64_t (teplovist_\w+)\(', (self.root / 'include/teplovist.h').read_text(), re.M))
@@ -130,9 +135,11 @@ class Findings:
             self.rule(found == lines, f'{name}: is not, statement by statement, what it was:\n    ' + '\n    '.join(found))
 
     def contracts(self):
-        for path, wanted in CONTRACTS:
-            text = re.sub(r'\s+', ' ', re.sub(r'//[^\n]*', '', (self.root / 'crates' / path).read_text()))
-            self.rule(wanted in text, f'{path}: does not have: {wanted}')
+        for path, wanted, module, definition in CONTRACTS:
+            text = re.sub(r'//[^\n]*', '', (self.root / 'crates' / path).read_text())
+            uses = [used for used, names in re.findall(r'ghost use (\S+?)\.\{([^}]*)\};', text) if definition in re.split(r'[\s,]+', names)]
+            self.rule(uses == [module], f'{path}: has {definition} from {uses}, and not from {module}')
+            self.rule('/*' not in text and re.sub(r'\s+', ' ', text).count(wanted) == 1, f'{path}: does not have: {wanted}')
 
     # ---- the way of the image
 
@@ -149,24 +156,22 @@ class Findings:
         if name == 'commit':
             self.header_path(flows, [root, 'container::sessions::commit', *HEADER_PATH])
         self.said.append(f'{name} hands the image on by &mut:')
-        self.said += [f'    {a} -> {b}, {n} {"call" if n == 1 else "calls"}' for (a, b), n in sorted(flows.lenders().items())]
+        self.said += [f'    {a} -> {b}, {n} {"call" if n == 1 else "calls"}' for (a, b), n in sorted(flows.links().items())]
 
     def lent_whole(self, name, flows):
-        """Who hands the image on by `&mut` hands it on whole, so that a place in it is the same place for everybody."""
-        for (caller, parameters), flow in flows.flows.items():
-            for call, handed in flow.calls:
-                for at in handed:
-                    place = call.arguments[at - 1]
-                    if self.types.carries_mutable(flow.function.kind_of(place)):
-                        whole = len(parameters) == 1 and not place.steps and place.local in whole_slices(flow.function, *parameters)
-                        self.rule(whole, f'{name}: {caller} hands on something else than the whole image: {call}')
+        """Who lends the image on lends it whole, so that a place in it is the same place for everybody."""
+        for (caller, parameters), call, lent in flows.lending():
+            whole = whole_slices(self.program.function(caller), *parameters) if len(parameters) == 1 else set()
+            good = len(lent) == 1 and not lent[0].steps and lent[0].local in whole
+            self.rule(good, f'{name}: {caller} hands on something else than the whole image: {call}')
 
     def header_path(self, flows, path):
         """From commit on, each link to the header's store is one call, and none stands in a loop."""
         for before, name in zip(path, path[1:]):
             found = [f'{caller[0]}{" in a loop" if call.in_loop else ""}' for caller, call in flows.callers((name, frozenset([1])))]
             self.rule(found == [before], f'commit: {name} is to have the image from one call, in {before} and in no loop; it has it from {found}')
-        self.rule(set(flows.lenders()) == set(zip(path, path[1:])), f'commit: hands the image by &mut to others than the header\'s store: {sorted(flows.lenders())}')
+        links = sorted(flows.links())
+        self.rule(links == sorted(zip(path, path[1:])), f'commit: hands the image on by &mut beside the way to the header: {links}')
 
     def reads(self):
         """No call that is lent an image by `&` stores to it."""
@@ -204,7 +209,7 @@ class Findings:
             for function in self.program.functions.values():
                 self.guarded_type(function, ('named', guarded), found)
             self.rule(found == makers, f'{guarded}: is made by {sorted(found)}; expected {sorted(makers)}')
-            self.said.append(f'a {guarded} is made by {", ".join(sorted(found))} alone')
+            self.said.append(f'{guarded} is made by {", ".join(sorted(found))} alone')
 
     def guarded_type(self, function, guarded, makers):
         """No place has a reference to such a value, or a row of them; none is changed in part; who makes one is noted."""
