@@ -9,7 +9,7 @@ if ! command -v valgrind >/dev/null; then
   exit 1
 fi
 archive=target/staticlib/libgateway.a
-if [ ! -f "$archive" ] || [ -n "$(find crates.txt crates -newer "$archive" -name '*.rt' -print -quit)" ]; then
+if [ ! -f "$archive" ] || [ -n "$(find crates -newer "$archive" -name '*.rt' -print -quit)" ]; then
   rt staticlib gateway | tail -n 1
 fi
 (cd tests/outside && cargo build --offline --release --quiet --features gateway)

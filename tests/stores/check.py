@@ -6,16 +6,22 @@ from mir import Program, Refused, Unknown, mir_text
 from rules import Findings
 
 
-def check(root):
-    """What is broken, and what was found."""
+def judge(root, text):
+    """What is broken in a program, given as MIR, and what was found."""
     try:
-        program = Program(mir_text(root))
+        program = Program(text)
         findings = Findings(root, program).all()
     except Unknown as unknown:
         return [f'not understood: {unknown}'], []
+    return findings.broken, [*findings.said, f'{len(program.functions)} functions read']
+
+
+def check(root):
+    """The same of the crates below a folder."""
+    try:
+        return judge(root, mir_text(root))
     except Refused as refused:
         return [f'refused by the compiler: {refused}'], []
-    return findings.broken, [*findings.said, f'{len(program.functions)} functions read']
 
 
 def main(root):

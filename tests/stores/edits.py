@@ -44,8 +44,7 @@ def with_range(*texts):
     return {BEGINNING: [('use layout::Container;\n', 'use layout::Container;\nuse number::Range;\n'), after(STAGED, *texts)]}
 
 
-BY_NEW = '// A session that remembers nothing.\n'
-STAGE_IMAGE = 'begin: the image is stored to by steps::beginning::stage_image'
+BY_STAGE_IMAGE = 'begin: the image is stored to by steps::beginning::stage_image'
 BY_HELPER = 'begin: the image is stored to by steps::beginning::helper'
 BY_COPY_INTO = 'begin: the image is stored to by number::runs::copy_into'
 
@@ -155,3 +154,19 @@ OTHER_COMMITS = [
 ]
 
 EDITS = OTHER_STORES + OTHER_SPACES + OTHER_COMMITS
+
+# Forms of MIR, and what is put for the first of each: nothing that the compiler writes today, or what could hide a store.
+FORMS = [
+    ('(op2 offset ', '(op2 withAddr '),
+    ('(op2 (add unsigned) ', '(op2 ptrLt '),
+    ('(op1 not ', '(op1 ptrAddr '),
+    ('(rvOpd ', '(volatile '),
+    ('(int 64 ', '(ptrConst '),
+    ('(direct ', '(indirect '),
+    ('(deref ', '(follow '),
+    ('(loop ', '(again '),
+    ('noDefault', '(otherwise skip)'),
+    ('(tyArray ', '(tyRow '),
+    ('(fnRef "number::runs::copy_into")', '(fnRef "number::runs::nobody")'),
+    ('(fn-def "dpfs::staging::copy_within"', '(fn-def "dpfs::staging::store"'),
+]

@@ -1,12 +1,14 @@
-"""try_edits.py ROOT: applies each edit of edits.py to a copy of the sources below ROOT; the rules must find each, for the reason that it names."""
+"""try_edits.py ROOT: applies each edit of edits.py to a copy of the sources below ROOT; the rules must find each, for the reason that it names. And
+puts forms into the MIR that no rule covers; each must be an error."""
 import multiprocessing
 import pathlib
 import shutil
 import sys
 import tempfile
 
-from check import check
-from edits import EDITS
+from check import check, judge
+from edits import EDITS, FORMS
+from mir import mir_text
 
 
 def copy_sources(root, folder):
@@ -43,14 +45,24 @@ def attempt(root, edit):
     return f'{title}: was not found as expected ({words}); found: {broken or "nothing"}'
 
 
+def put_form(root, text, old, new):
+    """None if a form that stands for another is refused, else what happened instead."""
+    if old not in text:
+        return f'the MIR has no {old}'
+    broken, _ = judge(root, text.replace(old, new, 1))
+    return None if any('not understood' in line for line in broken) else f'{new} for {old} was not refused; found: {broken or "nothing"}'
+
+
 def main(root):
-    with multiprocessing.Pool(2) as pool:
+    text = mir_text(root)
+    with multiprocessing.Pool() as pool:
         results = pool.starmap(attempt, [(root, edit) for edit in EDITS])
+        results += pool.starmap(put_form, [(root, text, old, new) for old, new in FORMS])
     missed = [result for result in results if result]
     for line in missed:
         print(f'stores: {line}')
     if not missed:
-        print(f'stores: each of {len(EDITS)} wrong programs was found')
+        print(f'stores: each of {len(EDITS)} wrong programs was found, and each of {len(FORMS)} unknown forms refused')
     return bool(missed)
 
 
