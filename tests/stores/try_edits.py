@@ -6,6 +6,7 @@ import shutil
 import sys
 import tempfile
 
+from built import compare
 from check import check, judge
 from edits import EDITS, FORMS
 from mir import mir_text
@@ -45,6 +46,17 @@ def attempt(root, edit):
     return f'{title}: was not found as expected ({words}); found: {broken or "nothing"}'
 
 
+def other_than_built(root):
+    """None if a source that is not the proved one is told from it, else what happened instead."""
+    with tempfile.TemporaryDirectory() as name:
+        folder = pathlib.Path(name).resolve()
+        copy_sources(root, folder)
+        (folder / 'target').symlink_to(root / 'target')
+        apply(EDITS[0][2], folder)
+        different, _ = compare(folder)
+    return None if different == ['steps::beginning::stage_image'] else f'an edited source was not told from the proved one; found: {different}'
+
+
 def put_form(root, text, old, new):
     """None if a form that stands for another is refused, else what happened instead."""
     if old not in text:
@@ -57,6 +69,7 @@ def main(root):
     text = mir_text(root)
     with multiprocessing.Pool() as pool:
         results = pool.starmap(attempt, [(root, edit) for edit in EDITS])
+        results.append(pool.apply(other_than_built, [root]))
         results += pool.starmap(put_form, [(root, text, old, new) for old, new in FORMS])
     missed = [result for result in results if result]
     for line in missed:

@@ -66,7 +66,9 @@ pub fn judge(calls: &[Prepared], trace: &mut dyn BufRead) -> Result<Tally, Strin
 fn parse(line: &[u8]) -> Result<Option<(u64, u64)>, String> {
     let unknown = || format!("this is no line of a trace: {}", String::from_utf8_lossy(line).trim_end());
     match line {
-        [b'I', b' ', b' ', ..] | [b' ', b'L', b' ', ..] | [b'=', b'=', ..] | [b'-', b'-', ..] | [b'\n'] => return Ok(None),
+        [b'I', b' ', b' ', ..] | [b' ', b'L', b' ', ..] | [b'=', b'=', ..] | [b'-', b'-', ..] | [b'\n'] => {
+            return Ok(None)
+        }
         [b' ', b'S' | b'M', b' ', ..] => {}
         _ => return Err(unknown()),
     }
