@@ -8,5 +8,6 @@ pub mod generate;
 pub mod model;
 pub mod program;
 pub mod rules;
+pub mod stores;
 pub mod subject;
 pub mod trial;

@@ -10,6 +10,8 @@ use outside::generate::samples::samples;
 use outside::generate::shape::Wanted;
 use outside::generate::valid_image;
 use outside::program::{program_output, LONGEST_INPUT};
+use outside::stores::judge::judge;
+use outside::stores::prepare::{from_bytes, prepare, to_bytes, Prepared};
 use outside::subject::Subject;
 use outside::trial::tally::Tally;
 use outside::trial::{run_case, run_fixed_cases};
@@ -18,9 +20,13 @@ const USAGE: &str = "usage:
   outside generate N [--seed S] [--folder F]   write N valid images into F (default target/images)
   outside check [--cases N] [--seed S]         run N random cases (default 3000) from seed S on (default 1)
   outside samples [FOLDER]                     write the sample images (default samples at the repository's root)
-  outside describe < IMAGE                     print what the describing program must print";
+  outside describe < IMAGE                     print what the describing program must print
+  outside stores prepare FILE [--calls N] [--seed S]   write N calls (default 250) into FILE
+  outside stores replay FILE [--fault yes]     make them on the library, each between two marks; with a store too many
+  outside stores judge FILE < TRACE            judge every store that a trace of the replay has";
 
 const DEFAULT_CASES: u64 = 3000;
+const DEFAULT_TRACED_CALLS: u64 = 250;
 
 fn main() -> ExitCode {
     let arguments: Vec<String> = std::env::args().skip(1).collect();
@@ -29,6 +35,7 @@ fn main() -> ExitCode {
         Some("check") => check(&arguments[1..]),
         Some("samples") => write_samples(&arguments[1..]),
         Some("describe") => describe(),
+        Some("stores") => stores(&arguments[1..]),
         _ => Err(USAGE.into()),
     };
     match outcome {
@@ -118,4 +125,37 @@ fn describe() -> Result<(), String> {
     std::io::stdin().take(LONGEST_INPUT as u64 + 1).read_to_end(&mut image).map_err(|error| error.to_string())?;
     print!("{}", program_output(&image));
     Ok(())
+}
+
+/// The stores of the library, seen one by one: tests/stores_at_run.sh has the order.
+fn stores(arguments: &[String]) -> Result<(), String> {
+    let (Some(action), Some(file)) = (arguments.first(), arguments.get(1)) else { return Err(USAGE.into()) };
+    let read = || -> Result<Vec<Prepared>, String> {
+        std::fs::read(file).map(|bytes| from_bytes(&bytes)).map_err(|error| format!("{file}: {error}"))
+    };
+    match action.as_str() {
+        "prepare" => {
+            let count = number_flag(arguments, "--calls", DEFAULT_TRACED_CALLS)? as usize;
+            let calls = prepare(number_flag(arguments, "--seed", 1)?, count);
+            std::fs::write(file, to_bytes(&calls)).map_err(|error| format!("{file}: {error}"))
+        }
+        "replay" => replay_calls(&read()?, flag(arguments, "--fault")?.is_some()),
+        "judge" => {
+            for (kind, seen) in judge(&read()?, &mut std::io::stdin().lock())? {
+                println!("{kind}: {} calls, {} accepted, {} bytes stored", seen.calls, seen.accepted, seen.stored);
+            }
+            Ok(())
+        }
+        _ => Err(USAGE.into()),
+    }
+}
+
+#[cfg(feature = "gateway")]
+fn replay_calls(calls: &[Prepared], fault: bool) -> Result<(), String> {
+    outside::stores::replay::replay(calls, fault)
+}
+
+#[cfg(not(feature = "gateway"))]
+fn replay_calls(_calls: &[Prepared], _fault: bool) -> Result<(), String> {
+    Err("the replay needs the feature gateway".into())
 }

@@ -1,0 +1,131 @@
+//! Proof that the judge of traces notices what it should: a trace as the rules would leave it passes, and each change to it is found.
+
+use outside::rules::header::{HEADER, HEADER_LENGTH};
+use outside::rules::opening::open;
+use outside::rules::protected::free_bytes;
+use outside::stores::judge::judge;
+use outside::stores::prepare::{from_bytes, prepare, to_bytes, Prepared};
+use outside::stores::{image_address, BEGINS, ENDS};
+use outside::subject::Rules;
+use outside::trial::call::Call;
+
+/// What a trace has of one call: the places in its image that are stored to, in their order.
+type Stores = Vec<(char, u64, u64)>;
+
+/// The stores of a library that stores each byte that changes, and a commit's header whole.
+fn stores_of(prepared: &Prepared) -> Stores {
+    let mut after = prepared.image.clone();
+    let outcome = prepared.call.perform(&Rules, &mut after, &mut prepared.session.clone());
+    let whole_header = matches!(prepared.call, Call::Commit) && outcome.accepted();
+    let header = HEADER..HEADER + HEADER_LENGTH;
+    (0..after.len())
+        .filter(|place| after[*place] != prepared.image[*place] || (whole_header && header.contains(place)))
+        .map(|place| ('S', place as u64, 1))
+        .collect()
+}
+
+fn trace_of(calls: &[Stores]) -> String {
+    let mut trace = String::from("==1== Lackey\nI  04001000,3\n");
+    for (number, stores) in calls.iter().enumerate() {
+        trace += &format!(" S {BEGINS:x},8\n L {:x},8\n", image_address(number));
+        for (kind, place, length) in stores {
+            trace += &format!(" {kind} {:x},{length}\n", image_address(number) + place);
+        }
+        trace += &format!(" S {ENDS:x},8\n S {:x},32\n", image_address(number + 1));
+    }
+    trace
+}
+
+fn complaint(calls: &[Prepared], trace: &str) -> String {
+    judge(calls, &mut trace.as_bytes()).map_or_else(|complaint| complaint, |_| "none".into())
+}
+
+/// Some calls with their stores, and the number of one that was accepted.
+fn some_calls(wanted: impl Fn(&Call) -> bool) -> (Vec<Prepared>, Vec<Stores>, usize) {
+    let calls = prepare(7, 80);
+    let stores: Vec<Stores> = calls.iter().map(stores_of).collect();
+    let number = (0..calls.len()).find(|number| wanted(&calls[*number].call) && !stores[*number].is_empty());
+    (calls, stores, number.expect("there is such a call"))
+}
+
+fn complaint_with(wanted: impl Fn(&Call) -> bool, change: impl Fn(&Prepared, &mut Stores)) -> String {
+    let (calls, mut stores, number) = some_calls(wanted);
+    change(&calls[number], &mut stores[number]);
+    complaint(&calls, &trace_of(&stores))
+}
+
+fn is_write(call: &Call) -> bool {
+    matches!(call, Call::Write { .. })
+}
+
+#[test]
+fn calls_are_read_as_they_were_written() {
+    let calls = prepare(7, 80);
+    assert_eq!(format!("{calls:?}"), format!("{:?}", from_bytes(&to_bytes(&calls))));
+}
+
+#[test]
+fn a_good_trace_passes() {
+    let (calls, stores, _) = some_calls(is_write);
+    let tally = judge(&calls, &mut trace_of(&stores).as_bytes()).unwrap();
+    assert_eq!(tally.values().map(|seen| seen.calls).sum::<u64>(), calls.len() as u64);
+}
+
+#[test]
+fn every_protected_byte_is_protected() {
+    for wanted in [is_write, |call: &Call| matches!(call, Call::Begin)] {
+        let (calls, stores, number) = some_calls(wanted);
+        let image = &calls[number].image;
+        let free = free_bytes(image, &open(image).unwrap());
+        for place in (0..image.len()).filter(|place| !free[*place]).step_by(29) {
+            for kind in ['S', 'M'] {
+                let mut stores = stores.clone();
+                stores[number].push((kind, place as u64, 1));
+                let found = complaint(&calls, &trace_of(&stores));
+                assert!(found.ends_with(&format!("a store to byte {place:#x}, which is protected from it")), "{found}");
+            }
+        }
+    }
+}
+
+#[test]
+fn a_long_store_counts_for_each_of_its_bytes() {
+    let found = complaint_with(is_write, |prepared, stores| {
+        let free = free_bytes(&prepared.image, &open(&prepared.image).unwrap());
+        let edge =
+            (0..free.len() - 1).find(|place| free[*place] && !free[*place + 1]).expect("free bytes end somewhere");
+        stores.push(('S', edge as u64, 2));
+    });
+    assert!(found.contains("which is protected from it"), "{found}");
+}
+
+#[test]
+fn a_commit_stores_its_header_once_and_nothing_else() {
+    let is_commit = |call: &Call| matches!(call, Call::Commit);
+    let twice = complaint_with(is_commit, |_, stores| stores.push(('S', HEADER as u64, 8)));
+    assert!(twice.contains("byte 0x100 of the header was stored 2 times"), "{twice}");
+    let beside = complaint_with(is_commit, |_, stores| stores.push(('S', 0x200, 1)));
+    assert!(beside.contains("a store to byte 0x200, which is protected from it"), "{beside}");
+    let part = complaint_with(is_commit, |_, stores| stores.truncate(stores.len() - 1));
+    assert!(part.contains("byte 0x1ff of the header was stored 0 times"), "{part}");
+}
+
+#[test]
+fn a_trace_that_has_not_seen_all_is_refused() {
+    let missed = complaint_with(is_write, |_, stores| stores.truncate(stores.len() - 1));
+    assert!(missed.contains("was seen"), "{missed}");
+    let beside = complaint_with(is_write, |prepared, stores| stores.push(('S', prepared.image.len() as u64, 1)));
+    assert!(beside.contains("a store beside the image"), "{beside}");
+
+    let (calls, stores, _) = some_calls(is_write);
+    let short = complaint(&calls, &trace_of(&stores[1..]));
+    assert!(short != "none", "a trace of other calls");
+    let trace = trace_of(&stores);
+    let cut = complaint(&calls, &trace[..trace.rfind(&format!("{ENDS:x}")).unwrap()]);
+    assert!(cut.contains("this is no line of a trace"), "{cut}");
+    let last = complaint(&calls[..1], &trace);
+    assert!(last.contains("more calls than were prepared"), "{last}");
+    let early = complaint(&calls, &trace_of(&stores[..1]));
+    assert!(early.contains("the trace ends after 1 of"), "{early}");
+    assert!(complaint(&[], "").contains("no store of a begin was seen"));
+}

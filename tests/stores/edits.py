@@ -1,0 +1,172 @@
+"""Wrong programs that the rules must find: a title, words of what must be found, and for each file what to replace by what. Most of them can be
+proved, since what they store is put back before the call ends; that they compile is all that is asked here."""
+
+BEGINNING = 'steps/src/beginning.rt'
+COMMITTING = 'steps/src/committing.rt'
+STAGING = 'dpfs/src/staging.rt'
+SESSIONS = 'container/src/sessions.rt'
+RUNS = 'number/src/runs.rt'
+GATEWAY = 'gateway/src/lib.rt'
+
+
+def lines(*texts):
+    return ''.join(f'    {text}\n' for text in texts)
+
+
+def after(line, *texts):
+    return (line, line + lines(*texts))
+
+
+def before(line, *texts):
+    return (line, lines(*texts) + line)
+
+
+STAGED = lines('stage_table(space, c, image);')
+BEGUN = lines('stage_image(space_of(c), c, image);')
+SWITCHED = lines('switch_tables(image, c);')
+HEADER_STORED = lines('store_header(image, header);')
+NEW = '// A session that remembers nothing.\n'
+STAGE_IMAGE = "// And each partition's other half"
+SECOND_TREE = lines('if c.header.count == 2 {', '    begin_tree(space, space.b, image);', '}')
+
+
+def in_begin(*texts):
+    """Lines in steps::beginning::stage_image."""
+    return {BEGINNING: [after(STAGED, *texts)]}
+
+
+def with_helper(helper, *texts):
+    """Lines there, and what they use in front of it."""
+    return {BEGINNING: [(STAGE_IMAGE, '\n'.join(helper) + '\n\n' + STAGE_IMAGE), after(STAGED, *texts)]}
+
+
+def with_range(*texts):
+    return {BEGINNING: [('use layout::Container;\n', 'use layout::Container;\nuse number::Range;\n'), after(STAGED, *texts)]}
+
+
+BY_STAGE_IMAGE = 'begin: the image is stored to by steps::beginning::stage_image'
+BY_HELPER = 'begin: the image is stored to by steps::beginning::helper'
+BY_COPY_INTO = 'begin: the image is stored to by number::runs::copy_into'
+
+OTHER_STORES = [
+    ('an assignment', BY_STAGE_IMAGE, in_begin('image[0] = 0;')),
+    ('an assignment with an operation', BY_STAGE_IMAGE, in_begin('image[0] ^= 1;')),
+    ('an index that is an element', BY_STAGE_IMAGE, in_begin('let at = [0usize; 2];', 'image[at[0]] = 0;')),
+    ('a reference to one byte', BY_STAGE_IMAGE, in_begin('let byte = &mut image[0];', '*byte = 0;')),
+    ('another name', BY_STAGE_IMAGE, in_begin('let other = &mut image[..];', 'other[0] = 0;')),
+    ('another name for good', BY_STAGE_IMAGE, {BEGINNING: [after(SECOND_TREE, 'let other = image;', 'other[0] = 0;')]}),
+    ('a part', BY_STAGE_IMAGE, in_begin('let part = &mut image[1..9];', 'part[0] = 0;')),
+    ('a run', BY_COPY_INTO, in_begin('number::runs::copy_into(image, 0, b"x");')),
+    ('a run into a part', BY_COPY_INTO, in_begin('number::runs::copy_into(&mut image[1..], 0, b"x");')),
+    ('a helper for its crate', BY_HELPER, with_helper(['pub(crate) fn helper(bytes: &mut [u8]) {', '    bytes[0] = 0;', '}'], 'helper(image);')),
+    ('a reference that is handed back', BY_STAGE_IMAGE, with_helper(
+        ["fn helper<'a>(bytes: &'a mut [u8]) -> &'a mut [u8] {", '    &mut bytes[1..]', '}'], 'let rest = helper(image);', 'rest[0] = 0;')),
+    ('a type by another name', BY_HELPER, with_helper(
+        ["type Lent<'a> = &'a mut [u8];", '', 'fn helper(bytes: Lent) {', '    bytes[0] = 0;', '}'], 'helper(image);')),
+    ('a struct that holds the image', BY_HELPER, with_helper(
+        ["struct Held<'a> {", "    bytes: &'a mut [u8],", '}', '', 'fn helper(held: Held) {', '    held.bytes[0] = 0;', '}'],
+        'helper(Held { bytes: image });')),
+    ('a reference to the image', BY_HELPER, with_helper(
+        ['fn helper(held: &mut &mut [u8]) {', '    held[0] = 0;', '}'], 'let mut lent = &mut image[..];', 'helper(&mut lent);')),
+    ('a row of images', BY_HELPER, with_helper(['fn helper(held: [&mut [u8]; 1]) {', '    held[0][0] = 0;', '}'], 'helper([&mut image[..]]);')),
+    ('a reference that is kept behind a pointer', 'keeps a reference to the image behind a pointer', with_helper(
+        ["fn helper<'a>(held: &mut &'a mut [u8], bytes: &'a mut [u8]) {", '    *held = bytes;', '}'],
+        'let mut none = [0u8; 1];', 'let mut lent = &mut none[..];', 'helper(&mut lent, image);', 'lent[0] = 0;')),
+    ('a function of a library of the kit', 'begin: the image is stored to by bytes::elem::swap', {
+        '../crates.txt': [('steps: number', 'steps: bytes number')], **in_begin('bytes::reverse(image, 0, 2);')}),
+    ('an image by another name', 'begin: the image is stored to by container::sessions::begin', {SESSIONS: [
+        ('pub fn begin(image: &mut [u8]', 'pub fn begin(target: &mut [u8]'),
+        ('(now (image .exit)) (calls.begin (now (image .entry)) session) ⌝ }\n{\n    let answer = open(image);',
+         '(now (target .exit)) (calls.begin (now (target .entry)) session) ⌝ }\n{\n    let answer = open(target);'),
+        ('    let header = header_of(image);\n' + BEGUN,
+         lines('let header = header_of(target);', 'stage_image(space_of(c), c, target);', 'target[0] = 0;'))]}),
+    ('a store at the boundary', 'begin: the image is stored to by gateway::teplovist_begin', {
+        GATEWAY: [after(lines('let begun = sessions::begin(image, session_of(before));'), 'image[0] = 0;')]}),
+    ('a call that nobody knows', 'a public call that is lent other parameters than those known', {
+        SESSIONS: [(NEW, 'pub fn touch(image: &mut [u8]) {\n    image[0] = 0;\n}\n\n' + NEW)]}),
+    ('a weaker demand on a place', 'dpfs/src/staging.rt: does not have', {
+        STAGING: [('(Free space (now image) i) × (i < length (now image))', '(i < length (now image))')]}),
+    ('another rule of what is free', 'dpfs/src/staging.rt: has Free from', {STAGING: [('specs.Free.{Free}', 'specs.Rules.{Free}')]}),
+    ('a store that sometimes goes elsewhere', 'dpfs::staging::store: is not, statement by statement', {STAGING: [(
+        lines('image[at] = value;'),
+        lines('let same = image[at] == value;', 'let place = if same { 0 } else { at };', 'let kept = image[place];',
+              'image[place] = if same { kept } else { value };'))]}),
+    ('a second store', 'dpfs::staging::store: is not, statement by statement', {STAGING: [after(lines('image[at] = value;'), 'image[at] = value;')]}),
+    ('a store to a part of the image', 'begin: steps::beginning::stage_image hands on something else than the whole image', in_begin(
+        'let at = inactive_range(c.header).offset;', 'store(space, &mut image[1..], at, 0);')),
+]
+
+OTHER_SPACES = [
+    ('an invented space', 'dpfs::Space: is made by', with_range(
+        'let all = Range { offset: 0, size: 0x200 };', 'let a = space.a;', 'let wide = Space { table: all, a, b: a, two: false };',
+        'let value = image[0x100];', 'store(wide, image, 0x100, 0);', 'store(wide, image, 0x100, value);')),
+    ('a space by an update of another', 'dpfs::Space: is made by', with_range(
+        'let all = Range { offset: 0, size: 0x200 };', 'let wide = Space { table: all, ..space };', 'store(wide, image, 0, 0);')),
+    ('a space with a field changed', 'changes a part of a dpfs::Space', in_begin(
+        'let mut wide = space;', 'wide.table.offset = 0;', 'store(wide, image, 0, 0);')),
+    ('a space with a field changed through a reference', 'takes the address of a dpfs::Space', with_helper(
+        ['fn helper(size: &mut u64) {', '    *size = 0x200;', '}'],
+        'let mut wide = space;', 'helper(&mut wide.table.size);', 'store(wide, image, 0, 0);')),
+    ('a space in another struct', 'changes a part of a dpfs::Space', with_helper(
+        ['struct Job {', '    space: Space,', '    at: u64,', '}', '', 'fn helper(at: u64, space: Space) -> Job {',
+         '    let mut job = Job { space, at };', '    job.space.table.offset = at;', '    job', '}'],
+        'let job = helper(0, space);', 'store(job.space, image, job.at, 0);')),
+    ('a space that a function changes', 'has a reference to a dpfs::Space', with_helper(
+        ['fn helper(space: &mut Space) {', '    *space = *space;', '}'], 'let mut wide = space;', 'helper(&mut wide);', 'store(wide, image, 0, 0);')),
+    ('a container with a field changed', 'changes a part of a layout::Container', {SESSIONS: [(BEGUN, lines(
+        'let mut other = c;', 'other.header.flag = 1 - c.header.flag;', 'stage_image(space_of(other), c, image);'))]}),
+    ('an invented container', 'layout::Container: is made by', {SESSIONS: [(BEGUN, lines(
+        'let a = c.a;', 'let h = c.header;', 'let second = c.b;', 'let other = layout::Container { header: h, a, b: second };',
+        'stage_image(space_of(other), c, image);'))]}),
+    ('a container of other bytes', 'begin: steps::beginning::stage_image has a container from layout::opening::open', in_begin(
+        'let crafted = [0u8; 512];', 'let answer = layout::opening::open(&crafted);',
+        'let layout::Opened::Valid(other) = answer else {', '    return;', '};',
+        'store(views::places::space_of(other), image, 0, 0);')),
+    ('a container of the bytes to write', 'write: container::sessions::write has a container from container::reading::open', {SESSIONS: [
+        before(lines('write_partition(image, session, c, partition, place, bytes)'),
+               'let other = super::reading::open(bytes);',
+               'let Opened::Valid(d) = other else {', '    return refused(session, Refusal::Stale);', '};',
+               'dpfs::staging::store(space_of(d), image, 0, 0);')]}),
+    ('a container of a part of the image', 'container::sessions::begin: is to open its image, whole and once', {SESSIONS: [(
+        'calls.begin (now (image .entry)) session) ⌝ }\n{\n    let answer = open(image);',
+        'calls.begin (now (image .entry)) session) ⌝ }\n{\n    let answer = open(&image[1..]);')]}),
+]
+
+ONE_HEADER = 'commit: steps::committing::store_header is to have the image from one call'
+
+OTHER_COMMITS = [
+    ('two headers', ONE_HEADER, {COMMITTING: [before(HEADER_STORED, 'store_header(image, [0u8; 256]);')]}),
+    ('a header in a loop', ONE_HEADER, {COMMITTING: [(HEADER_STORED, lines(
+        'let mut k = 0;', 'while k < 2 {', '    store_header(image, header);', '    k += 1;', '}'))]}),
+    ('a header that calls itself', ONE_HEADER, {COMMITTING: [after(
+        lines('copy_into(image, HEADER, &header);'), 'if header[0] != image[HEADER] {', '    store_header(image, header);', '}')]}),
+    ('two commits', 'commit: steps::committing::switch_tables is to have the image from one call', {
+        SESSIONS: [after(SWITCHED, 'switch_tables(image, c);')]}),
+    ('each byte of the header twice', 'number::runs::copy_into: is not, statement by statement', {RUNS: [before(
+        lines('    target[at + k] = run[k];'), '    target[at + k] = 0;')]}),
+    ('a store by commit, put back', 'commit: the image is stored to by dpfs::staging::store', {SESSIONS: [before(
+        SWITCHED, 'let at = layout::tables::inactive_range(c.header).offset;', 'let value = image[at as usize];',
+        'dpfs::staging::store(space_of(c), image, at, 0);', 'dpfs::staging::store(space_of(c), image, at, value);')]}),
+    ('a store by commit itself', 'commit: the image is stored to by container::sessions::commit', {SESSIONS: [before(
+        SWITCHED, 'let value = image[0x300];', 'image[0x300] = value;')]}),
+    ('a begin that stores the header', 'begin reaches steps::committing::store_header', {SESSIONS: [after(
+        BEGUN, 'switch_tables(image, c);', 'switch_tables(image, c);')]}),
+]
+
+EDITS = OTHER_STORES + OTHER_SPACES + OTHER_COMMITS
+
+# Forms of MIR, and what is put for the first of each: nothing that the compiler writes today, or what could hide a store.
+FORMS = [
+    ('(op2 offset ', '(op2 withAddr '),
+    ('(op2 (add unsigned) ', '(op2 ptrLt '),
+    ('(op1 not ', '(op1 ptrAddr '),
+    ('(rvOpd ', '(volatile '),
+    ('(int 64 ', '(ptrConst '),
+    ('(direct ', '(indirect '),
+    ('(deref ', '(follow '),
+    ('(loop ', '(again '),
+    ('noDefault', '(otherwise skip)'),
+    ('(tyArray ', '(tyRow '),
+    ('(fnRef "number::runs::copy_into")', '(fnRef "number::runs::nobody")'),
+    ('(fn-def "dpfs::staging::copy_within"', '(fn-def "dpfs::staging::store"'),
+]
