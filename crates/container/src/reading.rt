@@ -1,8 +1,8 @@
 // The calls that read. None of them changes the image; a refused read leaves its buffer as it was.
 use layout::Opened;
+use layout::Outcome;
 use layout::Refusal;
 use steps::Count;
-use steps::Outcome;
 use steps::Session;
 use steps::Verdict;
 use steps::answers::has_partition;

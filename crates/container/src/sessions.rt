@@ -1,8 +1,8 @@
 // The calls on a session. Whatever session value is handed in, only commit changes a byte that the committed view rests on.
 use layout::Opened;
+use layout::Outcome;
 use layout::Refusal;
 use layout::opening::open;
-use steps::Outcome;
 use steps::Session;
 use steps::Step;
 use steps::answers::has_partition;

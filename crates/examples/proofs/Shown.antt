@@ -30,7 +30,7 @@ use Rattle.dpfs.specs.Bits.{bitByte, bitPlace}
 use Rattle.ivfc.specs.declared.View.{View}
 use Rattle.ivfc.specs.Verified.{firstNot}
 use Rattle.ivfc.specs.Blocks.{block, entry, parent}
-use Rattle.steps.specs.declared.Outcome.the-variants.{Accepted, Refused}
+use Rattle.layout.specs.declared.Outcome.the-variants.{Accepted, Refused}
 use Rattle.steps.specs.Reading.{touched, refuseLowest, refuseOutside, readOutcome}
 use Rattle.examples.specs.Table.{Examples, levelOf, flagBytes}
 

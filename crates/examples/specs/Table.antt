@@ -21,7 +21,7 @@ use Rattle.layout.specs.Descriptors.{partitionFields, formAllowed, enoughBits, 
 use Rattle.dpfs.specs.Bits.{bitByte, bitPlace}
 use Rattle.ivfc.specs.declared.View.{View}
 use Rattle.ivfc.specs.Blocks.{block, entry, parent}
-use Rattle.steps.specs.declared.Outcome.the-variants.{Accepted, Refused}
+use Rattle.layout.specs.declared.Outcome.the-variants.{Accepted, Refused}
 use Rattle.steps.specs.Reading.{readOutcome}
 
 -- a level of that size and logarithm, wherever it starts

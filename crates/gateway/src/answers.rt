@@ -1,10 +1,10 @@
 // What a call answers, as one number: the low 8 bits are the refusal's number, 0 if the call is accepted; the bits above are the value.
 use layout::Opened;
+use layout::Outcome;
 use layout::Refusal;
 use layout::refusals::carried_by;
 use layout::refusals::number_of;
 use steps::Count;
-use steps::Outcome;
 use steps::Verdict;
 ghost use mathlib.Core.Path.{_≡_};
 ghost use Rattle.gateway.specs.Boundary.{packed, refusedAnswer, outcomeAnswer, verdictAnswer, countAnswer, openedAnswer};

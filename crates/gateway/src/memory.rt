@@ -1,6 +1,6 @@
 // A session as its caller keeps it: 257 bytes, the first 0 for idle and anything else for begun, then the remembered header.
+use layout::Outcome;
 use number::runs::copy_into;
-use steps::Outcome;
 use steps::Session;
 use steps::Step;
 ghost use mathlib.Core.Path.{_≡_};

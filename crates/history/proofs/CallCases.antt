@@ -17,8 +17,8 @@ use Rattle.layout.specs.Opening.{opened}
 use Rattle.ivfc.specs.declared.View.{View}
 use Rattle.update.specs.Staged.{writtenTo}
 use Rattle.views.specs.Places.{partitions, partitionOf, viewIn, stagedView}
-use Rattle.steps.specs.declared.Outcome.{Outcome}
-use Rattle.steps.specs.declared.Outcome.the-variants as outcome
+use Rattle.layout.specs.declared.Outcome.{Outcome}
+use Rattle.layout.specs.declared.Outcome.the-variants as outcome
 use Rattle.steps.specs.declared.Session.{Session}
 use Rattle.steps.specs.Reading.{refuseOutside}
 use Rattle.steps.specs.Sessions.{idle, begunImage, current, writeOutcome, committedImage}

@@ -11,7 +11,7 @@ use Rattle.layout.specs.Opening.{opened}
 use Rattle.dpfs.specs.Free.{Free}
 use Rattle.update.specs.Staged.{writtenTo}
 use Rattle.views.specs.Places.{partitions, partitionOf, committedView, stagedView, spaceOf}
-use Rattle.steps.specs.declared.Outcome.the-variants as outcome
+use Rattle.layout.specs.declared.Outcome.the-variants as outcome
 use Rattle.steps.specs.Sessions.{begunImage, tableStaged, writeOutcome, committedImage}
 use Rattle.history.specs.Model.{versionOf, laidOver}
 use Rattle.history.specs.Theorem.{Left}

@@ -20,7 +20,7 @@ use Rattle.layout.specs.declared.Container.{Container}
 use Rattle.ivfc.specs.declared.View.{View}
 use Rattle.ivfc.specs.Views.{contentOf, verified}
 use Rattle.views.specs.Places.{viewIn, committedView, stagedView}
-use Rattle.steps.specs.declared.Outcome.the-variants as outcome
+use Rattle.layout.specs.declared.Outcome.the-variants as outcome
 use Rattle.steps.specs.Calls.{readCommitted}
 use Rattle.history.specs.Model.{Version, versionOf, laidOver, lowest, readOf, Call, Open, ReadCommitted, ReadStaged, IsVerified, CountVerified, Begin, Write, Commit, Abandon, Ruling, Accepted, Refused, Event, Did, Model, advance, followed}
 use Rattle.history.specs.Run.{State, perform, ruled, next, after, events, beginOf, begins, commitOf, commits, Put, putBy, valueAt, later, lastValue}

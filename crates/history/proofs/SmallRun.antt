@@ -26,8 +26,8 @@ use Rattle.ivfc.specs.Verified as tree
 use Rattle.ivfc.specs.Views.{levelOf, matches, verified}
 use Rattle.update.specs.Covering.{covered}
 use Rattle.views.specs.Places.{partitions, partitionOf, viewIn, committedView, stagedView}
-use Rattle.steps.specs.declared.Outcome.{Outcome}
-use Rattle.steps.specs.declared.Outcome.the-variants as outcome
+use Rattle.layout.specs.declared.Outcome.{Outcome}
+use Rattle.layout.specs.declared.Outcome.the-variants as outcome
 use Rattle.steps.specs.declared.Session.{Session}
 use Rattle.steps.specs.Reading.{touched, refuseLowest, refuseOutside}
 use Rattle.steps.specs.Sessions.{idle, begunImage, current, aboveVerified, endsOutcome, writeOutcome}

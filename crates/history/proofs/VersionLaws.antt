@@ -19,8 +19,8 @@ use Rattle.layout.specs.declared.Refusal.the-variants.{OutOfRange, Unverified}
 use Rattle.ivfc.specs.declared.View.{View}
 use Rattle.ivfc.specs.Views.{contentOf, verified}
 use Rattle.ivfc.specs.Verified.{firstNot, countOf}
-use Rattle.steps.specs.declared.Outcome.{Outcome}
-use Rattle.steps.specs.declared.Outcome.the-variants as outcome
+use Rattle.layout.specs.declared.Outcome.{Outcome}
+use Rattle.layout.specs.declared.Outcome.the-variants as outcome
 use Rattle.steps.specs.declared.Verdict.the-variants as verdict
 use Rattle.steps.specs.declared.Count.the-variants as count
 use Rattle.steps.specs.Reading.{Read, touched, refuseLowest, refuseOutside, readOutcome, filled, readFrom, said, verdictOn, countIn}

@@ -37,8 +37,8 @@ use Rattle.update.proofs.ImageLaws.{write-free, write-bytes, write-verified, wr
 use Rattle.views.specs.Places.{partitions, slotOf, partitionOf, treeOf, viewIn, masterIn, stagedView, spaceOf}
 use Rattle.steps.proofs.WriteLaws.{staged-write-rules}
 use Rattle.views.proofs.PlaceLaws.{second-there, third-missing, staged-rules, staged-master, tree-among}
-use Rattle.steps.specs.declared.Outcome.{Outcome}
-use Rattle.steps.specs.declared.Outcome.the-variants as outcome
+use Rattle.layout.specs.declared.Outcome.{Outcome}
+use Rattle.layout.specs.declared.Outcome.the-variants as outcome
 use Rattle.steps.specs.Reading.{touched, refuseLowest, refuseOutside}
 use Rattle.steps.specs.Sessions.{stagedTable, inMaster, inSomeMaster, tableStaged, aboveVerified, writeOutcome}
 use Rattle.history.specs.Model.{flags, versionOf, marked, laidOver}

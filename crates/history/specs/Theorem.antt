@@ -13,7 +13,7 @@ use Rattle.layout.specs.Opening.{opened}
 use Rattle.dpfs.specs.Free.{Free}
 use Rattle.ivfc.specs.Views.{contentOf, verified}
 use Rattle.views.specs.Places.{partitions, partitionOf, committedView, stagedView, spaceOf}
-use Rattle.steps.specs.declared.Outcome.the-variants as outcome
+use Rattle.layout.specs.declared.Outcome.the-variants as outcome
 use Rattle.steps.specs.Calls.{readCommitted, isVerified, countVerified}
 use Rattle.history.specs.Model.{Version, versionOf, Call, Begin, Commit, Abandon, Answer, Accepted, Event, Model, followed, says}
 use Rattle.history.specs.Run.{State, perform, ruled, next, after, events, begins, commits, lastValue}

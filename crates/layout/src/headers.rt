@@ -5,7 +5,7 @@ use super::JudgedHeader;
 use super::Kind;
 use super::Refusal;
 use super::Slot;
-use super::magic::opens_with;
+use super::magic::opens_as;
 use number::Range;
 use number::fields::byte;
 use number::fields::field4;
@@ -156,9 +156,9 @@ fn judge_fields(length: u64, h: Header) -> JudgedHeader
 pub(crate) fn judge_header(length: u64, head: &[u8]) -> JudgedHeader
     ensures { λ r. ⌜ r ≡ judgedHeader length (now (head .entry)) ⌝ }
 {
-    if opens_with(head, b"DISA\0\0\x04\0") {
+    if opens_as(head, Kind::Disa) {
         judge_fields(length, disa_header(head))
-    } else if opens_with(head, b"DIFF\0\0\x03\0") {
+    } else if opens_as(head, Kind::Diff) {
         judge_fields(length, diff_header(head))
     } else {
         JudgedHeader::BadHeader(Refusal::Format)

@@ -8,12 +8,12 @@ pub const FRONT: usize = 0x200;
 
 mod descriptors;
 mod headers;
-mod magic;
+pub mod magic;
 pub mod opening;
 pub mod refusals;
 pub mod tables;
 
-// Why a call is refused, in the order of the numbers 1 to 14 (refusals::number_of).
+// Why a call is refused, in the order of their numbers (refusals::number_of).
 pub enum Refusal {
     // The image's length.
     Length,
@@ -43,6 +43,16 @@ pub enum Refusal {
     SessionState,
     // The header or the inactive table is not as the session left it.
     Stale,
+    // The container's kind doesn't fit the type of block that is to be signed.
+    SignerKind,
+    // A running digest whose total is, or would be, past the longest message.
+    DigestTooLong,
+}
+
+// What a call that needs nothing but a yes answers.
+pub enum Outcome {
+    Accepted,
+    Refused(Refusal),
 }
 
 pub enum Kind {

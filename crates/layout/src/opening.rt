@@ -23,7 +23,7 @@ const SHORTEST_IMAGE: u64 = FRONT as u64;
 const LONGEST_IMAGE: u64 = 0x400_0000;
 
 // 1: both limits are allowed lengths.
-fn length_allowed(n: u64) -> bool
+pub fn length_allowed(n: u64) -> bool
     ensures { λ r. ⌜ r ≡ lengthAllowed n ⌝ }
 {
     (SHORTEST_IMAGE <= n) & (n <= LONGEST_IMAGE)

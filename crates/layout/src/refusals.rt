@@ -21,6 +21,8 @@ pub fn number_of(r: Refusal) -> u64
         Refusal::ExternalLevel => 12,
         Refusal::SessionState => 13,
         Refusal::Stale => 14,
+        Refusal::SignerKind => 15,
+        Refusal::DigestTooLong => 22,
     }
 }
 
@@ -43,5 +45,7 @@ pub fn carried_by(r: Refusal) -> u64
         Refusal::ExternalLevel => 0,
         Refusal::SessionState => 0,
         Refusal::Stale => 0,
+        Refusal::SignerKind => 0,
+        Refusal::DigestTooLong => 0,
     }
 }

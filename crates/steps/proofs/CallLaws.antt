@@ -23,8 +23,8 @@ use Rattle.views.specs.Places.{partitions, committedView, stagedView}
 use Rattle.views.specs.Rules.{PlacesFit}
 use Rattle.views.proofs.PlaceLaws.{committed-rules, staged-rules}
 use Rattle.views.proofs.FitLaws.{places-fit}
-use Rattle.steps.specs.declared.Outcome.{Outcome}
-use Rattle.steps.specs.declared.Outcome.the-variants as outcome
+use Rattle.layout.specs.declared.Outcome.{Outcome}
+use Rattle.layout.specs.declared.Outcome.the-variants as outcome
 use Rattle.steps.specs.declared.Verdict.{Verdict}
 use Rattle.steps.specs.declared.Verdict.the-variants as verdict
 use Rattle.steps.specs.declared.Count.the-variants as count

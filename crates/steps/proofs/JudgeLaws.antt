@@ -23,8 +23,8 @@ use Rattle.ivfc.proofs.EntryLaws.{parent-mono, parent-exists}
 use Rattle.ivfc.proofs.LowestLaws.{Lowest, first-lowest, lowest-past}
 use Rattle.update.specs.Covering.{covered}
 use Rattle.update.proofs.JudgeLaws.{above-lowest, partly-lowest}
-use Rattle.steps.specs.declared.Outcome.{Outcome}
-use Rattle.steps.specs.declared.Outcome.the-variants as outcome
+use Rattle.layout.specs.declared.Outcome.{Outcome}
+use Rattle.layout.specs.declared.Outcome.the-variants as outcome
 use Rattle.steps.specs.Reading.{refuseLowest, refuseOutside}
 use Rattle.steps.specs.Sessions.{aboveVerified, endsOutcome, writeOutcome}
 use Rattle.steps.specs.Rules.{EndRules}

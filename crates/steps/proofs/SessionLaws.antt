@@ -22,8 +22,8 @@ use Rattle.update.specs.Staged.{writtenTo}
 use Rattle.update.specs.Rules.{WriteRules}
 use Rattle.views.specs.Places.{partitions, stagedView, spaceOf}
 use Rattle.views.proofs.PlaceLaws.{staged-rules}
-use Rattle.steps.specs.declared.Outcome.{Outcome}
-use Rattle.steps.specs.declared.Outcome.the-variants as outcome
+use Rattle.layout.specs.declared.Outcome.{Outcome}
+use Rattle.layout.specs.declared.Outcome.the-variants as outcome
 use Rattle.steps.specs.declared.Session.{Session}
 use Rattle.steps.specs.declared.Step.{Step}
 use Rattle.steps.specs.Sessions.{idle, begunImage, current, writeOutcome, committedImage}

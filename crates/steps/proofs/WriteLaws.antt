@@ -43,8 +43,8 @@ use Rattle.update.specs.Rules.{StagedRules, WriteRules}
 use Rattle.update.proofs.ImageLaws as update
 use Rattle.views.specs.Places.{partitions, slotOf, partitionOf, treeOf, masterIn, viewIn, committedView, stagedView, spaceOf}
 use Rattle.views.proofs.PlaceLaws.{present, inactive-table, tree-rules, space-rules, tree-among, staged-rules, staged-apart, staged-master, first-there, second-there, third-missing}
-use Rattle.steps.specs.declared.Outcome.{Outcome}
-use Rattle.steps.specs.declared.Outcome.the-variants as outcome
+use Rattle.layout.specs.declared.Outcome.{Outcome}
+use Rattle.layout.specs.declared.Outcome.the-variants as outcome
 use Rattle.steps.specs.declared.Session.{Session}
 use Rattle.steps.specs.Reading.{touched, refuseLowest, refuseOutside}
 use Rattle.steps.specs.Sessions.{inMaster, inSomeMaster, allBelow, stagedTable, tableStaged, current, aboveVerified, endsOutcome, writeOutcome}

@@ -21,8 +21,8 @@ use Rattle.ivfc.specs.Blocks.{parent}
 use Rattle.ivfc.specs.Views.{levelOf, verified}
 use Rattle.update.specs.Covering.{covered}
 use Rattle.views.specs.Places.{partitions, slotOf, partitionOf, treeOf}
-use Rattle.steps.specs.declared.Outcome.{Outcome}
-use Rattle.steps.specs.declared.Outcome.the-variants as outcome
+use Rattle.layout.specs.declared.Outcome.{Outcome}
+use Rattle.layout.specs.declared.Outcome.the-variants as outcome
 use Rattle.steps.specs.declared.Session.{Session}
 use Rattle.steps.specs.Reading.{refuseOutside, refuseLowest}
 

@@ -1,11 +1,11 @@
 // What a write answers before it stores: 9, 11, 10. Each hash block above it is hashed once, and of level 4 at most the two blocks at the
 // write's ends.
-use super::Outcome;
 use ivfc::View;
 use ivfc::matching::block_matches;
 use ivfc::verifying::first_under;
 use ivfc::verifying::first_unverified;
 use ivfc::verifying::parent_of;
+use layout::Outcome;
 use layout::Refusal;
 use number::Level;
 use number::blocks::block_length;

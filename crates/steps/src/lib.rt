@@ -1,4 +1,5 @@
 // What the public calls are made of: their answers, a session's value, judging, and the stores of begin, write and commit.
+use layout::Outcome;
 use layout::Refusal;
 
 pub mod answers;
@@ -8,12 +9,6 @@ pub mod judging;
 pub mod staleness;
 pub mod viewing;
 pub mod writing;
-
-// What a call that needs nothing but a yes answers.
-pub enum Outcome {
-    Accepted,
-    Refused(Refusal),
-}
 
 // Whether a block is verified.
 pub enum Verdict {

@@ -1,14 +1,14 @@
 // Reading a view, and the question whether a block of it is verified.
-use super::Outcome;
-use super::Verdict;
 use ivfc::View;
 use ivfc::gathering::gather;
 use ivfc::verifying::block_verified;
 use ivfc::verifying::first_unverified;
+use layout::Outcome;
 use layout::Refusal;
 use number::blocks::block_count;
 use number::blocks::block_of;
 use number::ranges::lies_inside;
+use super::Verdict;
 ghost use mathlib.Core.Path.{_≡_};
 ghost use lib.ListN.{length};
 ghost use Rattle.ivfc.specs.Rules.{ViewRules};

@@ -58,7 +58,7 @@ add-feed-level c = record { fits = omega (arith, small (c .before)) }
 feed-level-requires : tie.Need-feed-level-requires
 feed-level-requires c κs =
     let s = c .before .before .before .before .before in
-    (s .pre .0, s .pre .1, omega arith, room (c .before) .inside, omega (arith, small (c .before), c .start .ensures .total))
+    (s .pre .0, s .pre .1, omega arith, room (c .before) .inside, omega (arith, small (c .before), c .start .ensures .0 .total))
 
 sub-feed-zeros : tie.Need-sub-feed-zeros
 sub-feed-zeros c = omega (arith, room (c .before .before) .fits)
@@ -66,7 +66,7 @@ sub-feed-zeros c = omega (arith, room (c .before .before) .fits)
 feed-zeros-requires : tie.Need-feed-zeros-requires
 feed-zeros-requires c κs =
     let s = c .before .before .before .before in
-    omega (arith, small (c .before .before), room (c .before .before) .size, log s, size-small (s .level-of .result) (log s), c .feed-level .ensures .0, c .before .start .ensures .total)
+    omega (arith, small (c .before .before), room (c .before .before) .size, log s, size-small (s .level-of .result) (log s), c .feed-level .ensures .0, c .before .start .ensures .0 .total)
 
 finish-requires : tie.Need-finish-requires
 finish-requires c κs = search needs
@@ -74,7 +74,7 @@ finish-requires c κs = search needs
 returns : tie.Need-returns
 returns c =
     let a = c .before .before .before .before .before .before .before .before .args in
-    c .finish .ensures _ (c .before .feed-zeros .ensures _ (c .before .before .feed-level .ensures .1 [] (c .before .before .before .start .ensures)))
+    c .finish .ensures .0 _ (c .before .feed-zeros .ensures _ (c .before .before .feed-level .ensures .1 [] (c .before .before .before .start .ensures .0)))
     ∙ ap sha256 (fed-block (levelOf (a .view) (a .i)) (contentOf (a .view) (a .image .now) (a .i)) (a .b) _ _ (room (c .before .before .before .before)))
 
 pub digest-block-spec : {M : Type 1} → statement M

@@ -51,7 +51,7 @@ loop-again c =
       omega (arith, c .update .ensures .0),
       λ m h. subst (λ (k : List ℕ). Holds (c .update .result) k)
           (fed-run (contentOf (a .view) (a .image .now) (a .i)) (a .x) (l .at) m (r .result .now) (l .inv .0) (r .ensures .0))
-          (c .update .ensures .1 _ (l .inv .3 m h)),
+          (c .update .ensures .1 .0 _ (l .inv .3 m h)),
     )
 
 returns : tie.Need-returns Inv-loop μ-loop

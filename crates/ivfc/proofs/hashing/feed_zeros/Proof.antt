@@ -43,7 +43,7 @@ loop-again c =
       omega arith,
       omega (arith, c .update .ensures .0),
       λ m h. subst (λ (k : List ℕ). Holds (c .update .result) k) (fed-zeros m (n - l .left) 64 (n - (l .left - 64)) (omega arith))
-          (c .update .ensures .1 _ (l .inv .3 m h)),
+          (c .update .ensures .1 .0 _ (l .inv .3 m h)),
     )
 
 array-share-prefix-zeros : tie.Need-array-share-prefix-zeros Inv-loop μ-loop
@@ -65,7 +65,7 @@ returns c =
     let n = c .before .before .before .before .args .n in
     λ m h. subst (λ (k : List ℕ). Holds (c .update2 .result) k)
     (ap (λ (z : List ℕ). (m ++ replicate (n - l .left) 0) ++ z) (take-zeros 64 (l .left) (omega arith)) ∙ fed-zeros m (n - l .left) (l .left) n (omega arith))
-    (c .update2 .ensures .1 _ (l .inv .3 m h))
+    (c .update2 .ensures .1 .0 _ (l .inv .3 m h))
 
 pub feed-zeros-spec : {M : Type 1} → statement M
 feed-zeros-spec =
