@@ -29,11 +29,11 @@ returns c = rw (judgedHeader, sym (c .before .before .before .opens-as .ensures)
 
 returns-2 : tie.Need-returns-2
 unfolding judgedHeader
-returns-2 c = rw (judgedHeader, sym (c .before .before .before .before .before .before .opens-as .ensures) ∙ c .before .before .before .before .before .if1 .left, sym (c .before .before .before .opens-as2 .ensures) ∙ c .before .before .if2 .taken, ← c .before .diff-header .ensures) (c .judge-fields2 .ensures)
+returns-2 c = rw (judgedHeader, sym (c .before .before .before .before .before .opens-as .ensures) ∙ c .before .before .before .before .if1 .left, sym (c .before .before .before .opens-as2 .ensures) ∙ c .before .before .if2 .taken, ← c .before .diff-header .ensures) (c .judge-fields2 .ensures)
 
 returns-3 : tie.Need-returns-3
 unfolding judgedHeader
-returns-3 c = rw (judgedHeader, sym (c .before .before .before .before .opens-as .ensures) ∙ c .before .before .before .if1 .left, sym (c .before .opens-as2 .ensures) ∙ c .if2 .left)
+returns-3 c = rw (judgedHeader, sym (c .before .before .before .opens-as .ensures) ∙ c .before .before .if1 .left, sym (c .before .opens-as2 .ensures) ∙ c .if2 .left)
 
 pub judge-header-spec : {M : Type 1} → statement M
 judge-header-spec =
