@@ -59,7 +59,7 @@ pub record Examples : Type 0 where
   -- P12 DIFF flag 01 00 00 00: secondary, and 3 does not apply; 00 01 00 00: refusal 3
   pub p12 : (length : ℕ) (header : List ℕ) → opensWith header diffMagic ≡ true
       → (flagBytes header ≡ 1 ∷ 0 ∷ 0 ∷ 0 ∷ []
-          → (active (diffHeader header) ≡ diffHeader header .secondary) × (judgedHeader length header ≢ BadHeader Selection))
+      → (active (diffHeader header) ≡ diffHeader header .secondary) × (judgedHeader length header ≢ BadHeader Selection))
       × (flagBytes header ≡ 0 ∷ 1 ∷ 0 ∷ 0 ∷ [] → judgedHeader length header ≡ BadHeader Selection)
   -- 9, 3 and 7 are the numbers of these refusals
   pub numbers : (number OutOfRange ≡ 9) × (number Selection ≡ 3) × (number Placement ≡ 7)

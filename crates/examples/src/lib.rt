@@ -4,5 +4,4 @@ ghost use Rattle.examples.specs.Table.{Examples};
 // The examples hold: the check of this crate asks for the whole table by its statement, not by a proof's name.
 pub fn examples()
     ensures { λ _. ⌜ Examples ⌝ }
-{
-}
+{}

@@ -11,5 +11,4 @@ ghost use Rattle.history.specs.Theorem.{Demand3};
 // Demand 3 holds: the check of this crate asks for the theorem by its statement, not by a proof's name.
 pub fn demand3()
     ensures { λ _. ⌜ Demand3 ⌝ }
-{
-}
+{}

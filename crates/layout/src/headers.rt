@@ -20,6 +20,7 @@ ghost use Rattle.layout.specs.Headers.{rangeAt, noSlot, slotB, disaHeade
 
 // Where the active flag stands in a header of either kind.
 pub(crate) const DISA_FLAG: usize = 0x68;
+
 pub(crate) const DIFF_FLAG: usize = 0x30;
 
 // The most bytes that a table may have.

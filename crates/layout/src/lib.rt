@@ -4,6 +4,7 @@ use number::Range;
 
 // Where the header starts, and where the first 0x200 bytes end, with the header's end.
 pub const HEADER: usize = 0x100;
+
 pub const FRONT: usize = 0x200;
 
 mod descriptors;

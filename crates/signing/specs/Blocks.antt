@@ -14,14 +14,14 @@ use Rattle.signing.specs.declared.Signer.the-variants.{Card, Title, Syst
 -- ---- fields
 
 -- a number's bytes, the least significant first
-unfoldable pub fieldBytes : (width value : ℕ) → List ℕ
+unfoldable pub fieldBytes : (size value : ℕ) → List ℕ
 fieldBytes zero value = []
-fieldBytes (suc width) value = value % 0x100 ∷ fieldBytes width (value / 0x100)
+fieldBytes (suc size) value = value % 0x100 ∷ fieldBytes size (value / 0x100)
 
 -- fields one after the other
 unfoldable pub laidOut : List Field → List ℕ
 laidOut [] = []
-laidOut (field ∷ fields) = fieldBytes (field .width) (field .value) ++ laidOut fields
+laidOut (field ∷ fields) = fieldBytes (field .size) (field .value) ++ laidOut fields
 
 -- a block: its eight letters, its fields, then the tail
 unfoldable pub block : (letters : List ℕ) → List Field → (tail : List ℕ) → List ℕ
@@ -29,8 +29,8 @@ block letters fields tail = letters ++ laidOut fields ++ tail
 
 -- ---- the five types
 
-abbrev pub field : (width value : ℕ) → Field
-field width value = record { width = width; value = value }
+abbrev pub field : (size value : ℕ) → Field
+field size value = record { size = size; value = value }
 
 -- "CTR-NOR0", "CTR-SIGN", "CTR-SYS0", "CTR-EXT0", "CTR-9DB0"
 abbrev pub letters : Signer → List ℕ

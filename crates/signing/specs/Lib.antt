@@ -1,4 +1,5 @@
 pub mod Blocks
 pub mod Calls
 pub mod Digests
+pub mod Placing
 pub mod Rules

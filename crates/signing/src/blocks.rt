@@ -15,13 +15,13 @@ ghost use Rattle.sha256.specs.Sha256.{sha256};
 ghost use Rattle.signing.specs.Blocks.{fieldBytes, laidOut, innerBlock, tailOf, signingBlock};
 
 // Stores a field at a place, its least significant byte first.
-fn put_field(block: &mut [u8], at: usize, width: u64, value: u64)
-    requires { ⌜ at + width ≤ length (now block) ⌝ }
-    ensures { λ _. ⌜ now (block .exit) ≡ sets (now (block .entry)) at (fieldBytes width value) ⌝ }
+fn put_field(block: &mut [u8], at: usize, size: u64, value: u64)
+    requires { ⌜ at + size ≤ length (now block) ⌝ }
+    ensures { λ _. ⌜ now (block .exit) ≡ sets (now (block .entry)) at (fieldBytes size value) ⌝ }
 {
     let mut rest = value;
     let mut k = 0;
-    while k < width {
+    while k < size {
         let place = at + k as usize;
         block[place] = (rest % 0x100) as u8;
         rest = rest / 0x100;
@@ -38,8 +38,8 @@ fn put_fields(block: &mut [u8], at: usize, fields: [Field; 4]) -> usize
     let mut k = 0;
     while k < 4 {
         let field = fields[k];
-        put_field(block, end, field.width, field.value);
-        end += field.width as usize;
+        put_field(block, end, field.size, field.value);
+        end += field.size as usize;
         k += 1;
     }
     end

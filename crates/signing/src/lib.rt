@@ -28,11 +28,11 @@ pub enum Signer {
 
 // A field of a block: how many bytes it has, and its number.
 pub struct Field {
-    pub width: u64,
+    pub size: u64,
     pub value: u64,
 }
 
-// What a type's block is made of: its eight letters, its fields (of width 0 where there are fewer than four), and whether its tail is the hash
+// What a type's block is made of: its eight letters, its fields (of size 0 where there are fewer than four), and whether its tail is the hash
 // of the inner block, or the header itself.
 pub struct Shape {
     pub letters: [u8; 8],

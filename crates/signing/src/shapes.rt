@@ -8,36 +8,36 @@ ghost use mathlib.Core.Path.{_≡_};
 ghost use Rattle.signing.specs.Blocks.{kindOf};
 ghost use Rattle.signing.specs.Rules.{ShapeOf};
 
-// A field of so many bytes.
-fn field(width: u64, value: u64) -> Field
-    ensures { λ r. ⌜ (r .width ≡ width) × (r .value ≡ value) ⌝ }
-{
-    Field { width, value }
-}
-
 // No further field.
-fn none() -> Field
-    ensures { λ r. ⌜ (r .width ≡ 0) × (r .value ≡ 0) ⌝ }
-{
-    field(0, 0)
-}
+const NONE: Field = Field { size: 0, value: 0 };
 
-// The fields of CTR-EXT0 after the extdata ID are 0 for Quota.dat, else 1 and the file's two IDs.
+// CTR-EXT0: after the extdata ID come 0 and zeros for Quota.dat, else 1 and the file's two IDs.
 fn extdata_shape(id: u64, file: ExtdataFile) -> Shape
     ensures { λ r. ⌜ ShapeOf (Signer.Extdata id file) r ⌝ }
 {
     let letters = *b"CTR-EXT0";
+    let extdata = Field { size: 8, value: id };
     match file {
-        ExtdataFile::Quota => Shape {
-            letters,
-            fields: [field(8, id), field(4, 0), field(4, 0), field(4, 0)],
-            hashed: false,
-        },
-        ExtdataFile::Device(name, folder) => Shape {
-            letters,
-            fields: [field(8, id), field(4, 1), field(4, name as u64), field(4, folder as u64)],
-            hashed: false,
-        },
+        ExtdataFile::Quota => {
+            let zero = Field { size: 4, value: 0 };
+            Shape {
+                letters,
+                fields: [extdata, zero, zero, zero],
+                hashed: false,
+            }
+        }
+        ExtdataFile::Device(name, folder) => {
+            let one = Field { size: 4, value: 1 };
+            let n = name as u64;
+            let own = Field { size: 4, value: n };
+            let f = folder as u64;
+            let above = Field { size: 4, value: f };
+            Shape {
+                letters,
+                fields: [extdata, one, own, above],
+                hashed: false,
+            }
+        }
     }
 }
 
@@ -48,25 +48,36 @@ pub fn shape_of(signer: Signer) -> Shape
     match signer {
         Signer::Card => Shape {
             letters: *b"CTR-NOR0",
-            fields: [none(), none(), none(), none()],
+            fields: [NONE, NONE, NONE, NONE],
             hashed: true,
         },
-        Signer::Title(id) => Shape {
-            letters: *b"CTR-SIGN",
-            fields: [field(8, id), none(), none(), none()],
-            hashed: true,
-        },
-        Signer::System(id) => Shape {
-            letters: *b"CTR-SYS0",
-            fields: [field(8, id as u64), none(), none(), none()],
-            hashed: false,
-        },
+        Signer::Title(id) => {
+            let title = Field { size: 8, value: id };
+            Shape {
+                letters: *b"CTR-SIGN",
+                fields: [title, NONE, NONE, NONE],
+                hashed: true,
+            }
+        }
+        Signer::System(id) => {
+            let n = id as u64;
+            let save = Field { size: 8, value: n };
+            Shape {
+                letters: *b"CTR-SYS0",
+                fields: [save, NONE, NONE, NONE],
+                hashed: false,
+            }
+        }
         Signer::Extdata(id, file) => extdata_shape(id, file),
-        Signer::Database(id) => Shape {
-            letters: *b"CTR-9DB0",
-            fields: [field(4, id as u64), none(), none(), none()],
-            hashed: false,
-        },
+        Signer::Database(id) => {
+            let n = id as u64;
+            let database = Field { size: 4, value: n };
+            Shape {
+                letters: *b"CTR-9DB0",
+                fields: [database, NONE, NONE, NONE],
+                hashed: false,
+            }
+        }
     }
 }
 

@@ -1,4 +1,5 @@
 // Reading a view, and the question whether a block of it is verified.
+use super::Verdict;
 use ivfc::View;
 use ivfc::gathering::gather;
 use ivfc::verifying::block_verified;
@@ -8,7 +9,6 @@ use layout::Refusal;
 use number::blocks::block_count;
 use number::blocks::block_of;
 use number::ranges::lies_inside;
-use super::Verdict;
 ghost use mathlib.Core.Path.{_≡_};
 ghost use lib.ListN.{length};
 ghost use Rattle.ivfc.specs.Rules.{ViewRules};

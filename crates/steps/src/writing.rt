@@ -1,10 +1,10 @@
 // Writing to a partition that is there, and what a refused call on a session answers.
-use layout::Container;
-use layout::Outcome;
-use layout::Refusal;
 use super::Session;
 use super::Step;
 use super::judging::judge_write;
+use layout::Container;
+use layout::Outcome;
+use layout::Refusal;
 use update::write_level4;
 use views::places::space_of;
 use views::places::staged_view;
