@@ -9,25 +9,25 @@ slice-aggregate-opens-with : tie.Need-slice-aggregate-opens-with
 slice-aggregate-opens-with c = search needs
 
 opens-with-requires : tie.Need-opens-with-requires
-opens-with-requires c κs = search needs
+opens-with-requires c κs = tt
 
 disa-header-requires : tie.Need-disa-header-requires
-disa-header-requires c κs = search needs
+disa-header-requires c κs = tt
 
 judge-fields-requires : tie.Need-judge-fields-requires
-judge-fields-requires c κs = search needs
+judge-fields-requires c κs = tt
 
 slice-aggregate-opens-with-2 : tie.Need-slice-aggregate-opens-with-2
 slice-aggregate-opens-with-2 c = search needs
 
 opens-with-requires-2 : tie.Need-opens-with-requires-2
-opens-with-requires-2 c κs = search needs
+opens-with-requires-2 c κs = tt
 
 diff-header-requires : tie.Need-diff-header-requires
-diff-header-requires c κs = search needs
+diff-header-requires c κs = tt
 
 judge-fields-requires-2 : tie.Need-judge-fields-requires-2
-judge-fields-requires-2 c κs = search needs
+judge-fields-requires-2 c κs = tt
 
 returns : tie.Need-returns
 unfolding judgedHeader
