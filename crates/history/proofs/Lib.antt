@@ -16,5 +16,4 @@ pub mod Writes
 pub mod Commits
 pub mod Calls
 pub mod Demand
-pub mod SmallImage
 pub mod SmallRun

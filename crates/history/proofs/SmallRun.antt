@@ -39,7 +39,7 @@ use Rattle.history.specs.Theorem.{Start}
 use Rattle.history.proofs.CallCases.{begun-by, written-by}
 use Rattle.history.proofs.Begins as laws
 use Rattle.history.proofs.Demand.{demand3}
-use Rattle.history.proofs.SmallImage.{table, smallImage, smallContainer, small-opens, small-verified}
+use Rattle.examples.proofs.SmallImage.{table, smallImage, smallContainer, small-opens, small-verified}
 
 -- an idle session on it
 abbrev pub smallState : State

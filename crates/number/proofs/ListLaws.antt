@@ -1,14 +1,14 @@
 -- Lists of bytes: parts, runs of a function, stores and copies. Assumes nothing.
 use mathlib.Core.Path.{_≡_, refl, sym, ap, _∙_}
-use mathlib.Core.List.{List, [], _∷_, _++_}
+use mathlib.Core.List.{List, [], _∷_, _++_, append-nil}
 use mathlib.Core.Logic.{_≢_, _⊎_, inl, inr}
 use Prim.Native.Nat.{ℕ, zero, suc, _+_, _-_, _≤_, _<_, min}
 use native.Mathlib.Omega.{arith}
 use native.Mathlib.Nat.{add-zero}
 use native.Mathlib.Numerals.{add-one}
 use native.Mathlib.Decide.{ℕ-discrete, decLt}
-use lib.ListN.{length, getD, take, drop, set, replicate, length-set, length-take, length-drop, length-replicate, replicate-append-replicate, drop-of-length-le}
-use lib.Seq.{ext-getD, getD-take, getD-drop, getD-set-same, getD-set-other, sets, length-sets, drop-cons, drop-length, drop-at, take-at, take-nil, take-all}
+use lib.ListN.{length, getD, take, drop, set, replicate, length-set, length-take, length-drop, length-append, length-replicate, replicate-append-replicate, drop-of-length-le}
+use lib.Seq.{ext-getD, getD-take, getD-drop, getD-set-same, getD-set-other, sets, sets-eq, length-sets, drop-cons, drop-length, drop-at, take-at, take-nil, take-all}
 use lib.Dec.{eqb}
 use mathlib.Core.Bool.{Bool, true, false, _&&_, true≢false}
 use borrow.Author.Tests.{eq-eqb, ne-eqb, eqb-true}
@@ -298,3 +298,13 @@ take-zeros n k h =
     let e : n ≡ k + (n - k) = omega arith in
     ap (λ (j : ℕ). take k (replicate j 0)) e ∙ ap (take k) (sym (replicate-append-replicate k (n - k) 0))
     ∙ take-at (replicate k 0) (replicate (n - k) 0) k (length-replicate k 0)
+
+-- a run as long as the list takes its place
+pub sets-whole : (s l : List ℕ) → length l ≡ length s → sets s 0 l ≡ l
+sets-whole s l h =
+    let k : length s ≤ 0 + length l = omega arith in
+    sets-eq l s 0 (omega arith) ∙ rw (drop-of-length-le s k) (append-nil l)
+
+-- two runs that fill a list
+pub sets-two : (s : List ℕ) (y : ℕ) (a b : List ℕ) → y ≡ length a → y + length b ≡ length s → sets (sets s 0 a) y b ≡ a ++ b
+sets-two s y a b p q = sets-append s 0 y a b (omega arith) ∙ sets-whole s (a ++ b) (rw length-append (omega arith))

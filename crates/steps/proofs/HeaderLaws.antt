@@ -1,14 +1,14 @@
 -- The header that a commit stores, as the code makes it. Assumes nothing.
 use mathlib.Core.Path.{_≡_, refl, sym, ap, _∙_}
-use mathlib.Core.List.{List, [], _++_, append-nil}
+use mathlib.Core.List.{List}
 use mathlib.Core.Logic.{_⊎_, inl, inr}
 use Prim.Native.Nat.{ℕ, _+_, _-_, _≤_, _<_}
 use native.Mathlib.Omega.{arith}
-use lib.ListN.{length, set, take, drop, replicate, length-set, length-replicate, drop-of-length-le}
-use lib.Seq.{sets, sets-eq}
+use lib.ListN.{length, set, take, drop, replicate, length-set, length-replicate}
+use lib.Seq.{sets}
 use Rattle.number.specs.declared.Range.{Range}
 use Rattle.number.specs.Ranges.{part}
-use Rattle.number.proofs.ListLaws.{length-part}
+use Rattle.number.proofs.ListLaws.{length-part, sets-whole}
 use Rattle.sha256.specs.Sha256.{sha256}
 use Rattle.sha256.proofs.Laws.{length-sha256}
 use Rattle.layout.specs.declared.Kind.{Kind}
@@ -18,13 +18,6 @@ use Rattle.layout.specs.Headers.{headerBytes, flagOffset, hashRange}
 use Rattle.layout.specs.Tables.{inactive}
 use Rattle.layout.specs.Guarantees.{Guarantees}
 use Rattle.steps.specs.Sessions.{headerCommitted, committedImage}
-
--- a run stored over a whole list of its length is the run
-pub sets-whole : (s l : List ℕ) → length s ≡ length l → sets s 0 l ≡ l
-sets-whole s l e =
-    let d : drop (0 + length l) s ≡ [] = drop-of-length-le s {i = 0 + length l} (omega arith) in
-    let q = sets-eq l s 0 (omega arith) in
-    (simp d at q) ∙ append-nil l
 
 pub header-length : (image : List ℕ) → 0x200 ≤ length image → length (headerBytes image) ≡ 256
 unfolding part
@@ -50,7 +43,7 @@ hash-inside Diff = omega arith
 pub header-copied : (image zeros after : List ℕ) → length zeros ≡ 256 → 0x200 ≤ length image → after ≡ sets zeros 0 (take 0x100 (drop 0x100 image))
     → after ≡ headerBytes image
 unfolding part
-header-copied image zeros after z h e = e ∙ sets-whole zeros (take 0x100 (drop 0x100 image)) (z ∙ sym (header-length image h))
+header-copied image zeros after z h e = e ∙ sets-whole zeros (take 0x100 (drop 0x100 image)) (header-length image h ∙ sym z)
 
 module _ (image : List ℕ) (c : Container) (g : Guarantees image c) (header : List ℕ) (same : header ≡ headerBytes image) (at off : ℕ)
     (flag : at ≡ flagOffset (c .header .kind)) (place : off ≡ hashRange (c .header .kind) .offset)

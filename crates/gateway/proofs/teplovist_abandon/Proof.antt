@@ -1,4 +1,8 @@
 -- The call's contract, through the answer's number and the session's bytes.
+use mathlib.Core.Path.{_∙_}
+use denote.Ref.{now}
+use Rattle.gateway.proofs.CallLaws.{answered, left}
+use Rattle.steps.specs.Calls as calls
 use borrow.Author.Needs.{needs}
 use Rattle.gateway.proofs.teplovist_abandon.Statement.{statement}
 use Rattle.gateway.proofs.teplovist_abandon.Tie as tie
@@ -16,7 +20,16 @@ outcome-answer-requires : tie.Need-outcome-answer-requires
 outcome-answer-requires c κs = search needs
 
 returns : tie.Need-returns
-returns c = (cc, cc)
+returns c = (
+  answered
+      (c .outcome-answer .ensures)
+      (c .before .before .abandon .ensures .0 ∙ λ i. calls.abandon (c .before .before .before .session-of .ensures i) .outcome),
+  left
+      (now (c .before .before .before .before .before .args .session))
+      (c .before .session-left .ensures)
+      (c .before .before .abandon .ensures .0 ∙ λ i. calls.abandon (c .before .before .before .session-of .ensures i) .outcome)
+      (c .before .before .abandon .ensures .1 ∙ λ i. calls.abandon (c .before .before .before .session-of .ensures i) .session),
+)
 
 pub teplovist-abandon-spec : {M : Type 1} → statement M
 teplovist-abandon-spec =

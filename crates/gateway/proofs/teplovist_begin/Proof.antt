@@ -1,4 +1,7 @@
 -- The call's contract, through the answer's number and the session's bytes.
+use denote.Ref.{now}
+use Rattle.gateway.proofs.CallLaws.{called}
+use Rattle.steps.specs.Calls as calls
 use borrow.Author.Needs.{needs}
 use Rattle.gateway.proofs.teplovist_begin.Statement.{statement}
 use Rattle.gateway.proofs.teplovist_begin.Tie as tie
@@ -19,7 +22,7 @@ same-length : tie.Need-same-length
 same-length c = search needs
 
 returns : tie.Need-returns
-returns c = record { outcome = cc; stored = cc; session = cc }
+returns c = called (calls.begin (now (c .before .before .before .before .before .before .before .before .before .args .image))) (c .before .before .before .before .before .session-of .ensures) (c .before .before .before .before .begin .ensures) (c .before .session-left .ensures) (c .outcome-answer .ensures)
 
 pub teplovist-begin-spec : {M : Type 1} → statement M
 teplovist-begin-spec =

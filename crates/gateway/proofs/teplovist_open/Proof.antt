@@ -1,4 +1,7 @@
 -- The call's contract, through the answer's number.
+use mathlib.Core.Path.{_∙_}
+use denote.Ref.{now}
+use Rattle.gateway.specs.Boundary.{openedAnswer, descriptionLeft}
 use borrow.Author.Needs.{needs}
 use Rattle.gateway.proofs.teplovist_open.Statement.{statement}
 use Rattle.gateway.proofs.teplovist_open.Tie as tie
@@ -13,7 +16,10 @@ opened-answer-requires : tie.Need-opened-answer-requires
 opened-answer-requires c κs = search needs
 
 returns : tie.Need-returns
-returns c = (cc, cc)
+returns c = (
+  c .opened-answer .ensures ∙ λ i. openedAnswer (c .before .before .before .«open» .ensures i),
+  c .before .description-left .ensures ∙ λ i. descriptionLeft (c .before .before .before .«open» .ensures i) (now (c .before .before .before .before .before .args .numbers)),
+)
 
 pub teplovist-open-spec : {M : Type 1} → statement M
 teplovist-open-spec =

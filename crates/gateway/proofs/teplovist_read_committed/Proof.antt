@@ -1,4 +1,5 @@
 -- The call's contract, through the answer's number.
+use Rattle.gateway.proofs.CallLaws.{answered}
 use borrow.Author.Needs.{needs}
 use Rattle.gateway.proofs.teplovist_read_committed.Statement.{statement}
 use Rattle.gateway.proofs.teplovist_read_committed.Tie as tie
@@ -13,7 +14,7 @@ same-length : tie.Need-same-length
 same-length c = search needs
 
 returns : tie.Need-returns
-returns c = (cc, cc)
+returns c = (answered (c .outcome-answer .ensures) (c .before .before .before .read-committed .ensures .0), c .before .before .before .read-committed .ensures .1)
 
 pub teplovist-read-committed-spec : {M : Type 1} → statement M
 teplovist-read-committed-spec =

@@ -1,6 +1,6 @@
 -- Two runs of 13 and 23 numbers fill the 36.
 use lib.ListN.{replicate}
-use Rattle.gateway.proofs.Laws.{sets-two}
+use Rattle.number.proofs.ListLaws.{sets-two}
 use borrow.Author.Needs.{needs}
 use Rattle.gateway.proofs.description.join_partition.Statement.{statement}
 use Rattle.gateway.proofs.description.join_partition.Tie as tie

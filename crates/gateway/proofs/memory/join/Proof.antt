@@ -1,6 +1,7 @@
 -- The first byte and the header fill the 257.
 use Rattle.gateway.specs.Boundary.{sessionBytes}
-use Rattle.gateway.proofs.Laws.{sets-whole, as-number}
+use Rattle.number.proofs.ListLaws.{sets-whole}
+use Rattle.gateway.proofs.Laws.{as-number}
 use mathlib.Core.Path.{_≡_, ap, _∙_}
 use mir.Val.{boolByte}
 use Prim.Native.Nat.{ℕ}

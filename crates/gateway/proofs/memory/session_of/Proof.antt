@@ -4,7 +4,7 @@ use mathlib.Core.Path.{_≡_, _∙_}
 use native.Mathlib.Omega.{arith}
 use lib.ListN.{length, take, drop, replicate, length-take, length-drop}
 use lib.Seq.{sets}
-use Rattle.gateway.proofs.Laws.{sets-whole}
+use Rattle.number.proofs.ListLaws.{sets-whole}
 use borrow.Author.Needs.{needs}
 use Rattle.gateway.proofs.memory.session_of.Statement.{statement}
 use Rattle.gateway.proofs.memory.session_of.Tie as tie

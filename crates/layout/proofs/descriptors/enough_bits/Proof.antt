@@ -9,7 +9,7 @@ use Rattle.layout.proofs.descriptors.enough_bits.Statement.{statement}
 use Rattle.layout.proofs.descriptors.enough_bits.Tie as tie
 
 block-count-requires : tie.Need-block-count-requires
-block-count-requires c κs = search needs
+block-count-requires c κs = tt
 
 mul-result : tie.Need-mul-result
 mul-result c = search needs

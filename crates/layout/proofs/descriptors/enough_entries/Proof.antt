@@ -8,7 +8,7 @@ use Rattle.layout.proofs.descriptors.enough_entries.Statement.{statemen
 use Rattle.layout.proofs.descriptors.enough_entries.Tie as tie
 
 block-count-requires : tie.Need-block-count-requires
-block-count-requires c κs = search needs
+block-count-requires c κs = tt
 
 returns : tie.Need-returns
 unfolding enoughEntries

@@ -11,17 +11,17 @@ unfolding judgedPartition
 returns c = rw (judgedPartition, lt-leb 0x44 _ (c .if1 .taken))
 
 read-partition-requires : tie.Need-read-partition-requires
-read-partition-requires c κs = search needs
+read-partition-requires c κs = tt
 
 form-allowed-requires : tie.Need-form-allowed-requires
-form-allowed-requires c κs = search needs
+form-allowed-requires c κs = tt
 
 returns-2 : tie.Need-returns-2
 unfolding judgedPartition
 returns-2 c = rw (judgedPartition, le-leb 0x44 _ (c .before .before .before .if1 .left), ← c .before .before .read-partition .ensures, failed (c .before .form-allowed .ensures) (c .if2 .taken))
 
 places-allowed-requires : tie.Need-places-allowed-requires
-places-allowed-requires c κs = search needs
+places-allowed-requires c κs = tt
 
 returns-3 : tie.Need-returns-3
 unfolding judgedPartition

@@ -19,7 +19,7 @@ log-at-requires : tie.Need-log-at-requires
 log-at-requires c κs = search needs
 
 returns : tie.Need-returns
-returns c = cc
+returns c = λ i. record { offset = c .before .before .field8 .ensures i; size = c .before .field82 .ensures i; log = c .log-at .ensures i }
 
 pub level-at-spec : {M : Type 1} → statement M
 level-at-spec =

@@ -5,34 +5,34 @@ use Rattle.layout.proofs.descriptors.levels_placed.Statement.{statement
 use Rattle.layout.proofs.descriptors.levels_placed.Tie as tie
 
 level-range-requires : tie.Need-level-range-requires
-level-range-requires c κs = search needs
+level-range-requires c κs = tt
 
 level-range-requires-2 : tie.Need-level-range-requires-2
-level-range-requires-2 c κs = search needs
+level-range-requires-2 c κs = tt
 
 level-range-requires-3 : tie.Need-level-range-requires-3
-level-range-requires-3 c κs = search needs
+level-range-requires-3 c κs = tt
 
 level-range-requires-4 : tie.Need-level-range-requires-4
-level-range-requires-4 c κs = search needs
+level-range-requires-4 c κs = tt
 
 level-range-requires-5 : tie.Need-level-range-requires-5
-level-range-requires-5 c κs = search needs
+level-range-requires-5 c κs = tt
 
 level-range-requires-6 : tie.Need-level-range-requires-6
-level-range-requires-6 c κs = search needs
+level-range-requires-6 c κs = tt
 
 pairs-and-one-placed-requires : tie.Need-pairs-and-one-placed-requires
-pairs-and-one-placed-requires c κs = search needs
+pairs-and-one-placed-requires c κs = tt
 
 three-placed-requires : tie.Need-three-placed-requires
-three-placed-requires c κs = search needs
+three-placed-requires c κs = tt
 
 pairs-placed-requires : tie.Need-pairs-placed-requires
-pairs-placed-requires c κs = search needs
+pairs-placed-requires c κs = tt
 
 four-placed-requires : tie.Need-four-placed-requires
-four-placed-requires c κs = search needs
+four-placed-requires c κs = tt
 
 returns : tie.Need-returns
 unfolding levelsPlaced

@@ -15,7 +15,7 @@ level-at-requires-2 c κs = search needs
 
 returns : tie.Need-returns
 unfolding dpfsFields
-returns c = cc
+returns c = λ i. record { level1 = c .before .before .range-at .ensures i; level2 = c .before .level-at .ensures i; level3 = c .level-at2 .ensures i }
 
 pub read-dpfs-spec : {M : Type 1} → statement M
 read-dpfs-spec =

@@ -24,7 +24,12 @@ log-at-requires c κs = search needs
 
 returns : tie.Need-returns
 unfolding ivfcFields
-returns c = cc
+returns c = λ i. record {
+  level1 = c .before .before .before .before .before .level-at .ensures i;
+  level2 = c .before .before .before .before .level-at2 .ensures i;
+  level3 = c .before .before .before .level-at3 .ensures i;
+  level4 = record { offset = c .before .before .field8-if .ensures i; size = c .before .field8 .ensures i; log = c .log-at .ensures i };
+}
 
 pub read-ivfc-spec : {M : Type 1} → statement M
 read-ivfc-spec =

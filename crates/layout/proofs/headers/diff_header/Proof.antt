@@ -1,4 +1,5 @@
 -- `layout::headers::diff_header` meets its contract. Assumes nothing.
+use Rattle.layout.specs.declared.Kind.the-variants.{Diff}
 use borrow.Author.Needs.{needs}
 use Rattle.layout.specs.Headers.{diffHeader}
 use Rattle.layout.proofs.headers.diff_header.Statement.{statement}
@@ -20,11 +21,19 @@ range-at-requires : tie.Need-range-at-requires
 range-at-requires c κs = search needs
 
 no-slot-requires : tie.Need-no-slot-requires
-no-slot-requires c κs = search needs
+no-slot-requires c κs = tt
 
 returns : tie.Need-returns
 unfolding diffHeader
-returns c = cc
+returns c = λ i. record {
+  kind = Diff;
+  count = 1;
+  flag = c .before .before .before .before .field4 .ensures i;
+  secondary = record { offset = c .before .before .before .field82 .ensures i; size = c .before .before .before .before .before .field8 .ensures i };
+  primary = record { offset = c .before .before .field83 .ensures i; size = c .before .before .before .before .before .field8 .ensures i };
+  a = record { descriptor = record { offset = 0; size = c .before .before .before .before .before .field8 .ensures i }; partition = c .before .range-at .ensures i };
+  b = c .no-slot .ensures i;
+}
 
 pub diff-header-spec : {M : Type 1} → statement M
 diff-header-spec =

@@ -1,6 +1,9 @@
 -- `layout::headers::disa_header` meets its contract. Assumes nothing.
+use mathlib.Core.Path.{_∙_}
+use denote.Ref.{now}
+use Rattle.layout.specs.declared.Kind.the-variants.{Disa}
 use borrow.Author.Needs.{needs}
-use Rattle.layout.specs.Headers.{disaHeader}
+use Rattle.layout.specs.Headers.{disaHeader, slotB}
 use Rattle.layout.proofs.headers.disa_header.Statement.{statement}
 use Rattle.layout.proofs.headers.disa_header.Tie as tie
 
@@ -11,7 +14,7 @@ field8-requires : tie.Need-field8-requires
 field8-requires c κs = search needs
 
 byte-requires : tie.Need-byte-requires
-byte-requires c κs = search needs
+byte-requires c κs = tt
 
 cast-t6 : tie.Need-cast-t6
 cast-t6 c = search needs
@@ -29,11 +32,19 @@ range-at-requires-2 : tie.Need-range-at-requires-2
 range-at-requires-2 c κs = search needs
 
 slot-b-requires : tie.Need-slot-b-requires
-slot-b-requires c κs = search needs
+slot-b-requires c κs = tt
 
 returns : tie.Need-returns
 unfolding disaHeader
-returns c = cc
+returns c = λ i. record {
+  kind = Disa;
+  count = c .before .before .before .before .before .before .before .field4 .ensures i;
+  flag = c .before .before .before .before .before .byte .ensures i;
+  secondary = record { offset = c .before .before .before .before .field82 .ensures i; size = c .before .before .before .before .before .before .field8 .ensures i };
+  primary = record { offset = c .before .before .before .field83 .ensures i; size = c .before .before .before .before .before .before .field8 .ensures i };
+  a = record { descriptor = c .before .before .range-at .ensures i; partition = c .before .range-at2 .ensures i };
+  b = (c .slot-b .ensures ∙ λ j. slotB (now (c .before .before .before .before .before .before .before .before .before .args .head)) (c .before .before .before .before .before .before .before .field4 .ensures j)) i;
+}
 
 pub disa-header-spec : {M : Type 1} → statement M
 disa-header-spec =

@@ -6,14 +6,14 @@ use Rattle.layout.proofs.headers.judge_fields.Statement.{statement}
 use Rattle.layout.proofs.headers.judge_fields.Tie as tie
 
 selection-allowed-requires : tie.Need-selection-allowed-requires
-selection-allowed-requires c κs = search needs
+selection-allowed-requires c κs = tt
 
 returns : tie.Need-returns
 unfolding judgedFields
 returns c = rw (judgedFields, failed (c .before .selection-allowed .ensures) (c .if1 .taken))
 
 geometry-allowed-requires : tie.Need-geometry-allowed-requires
-geometry-allowed-requires c κs = search needs
+geometry-allowed-requires c κs = tt
 
 returns-2 : tie.Need-returns-2
 unfolding judgedFields

@@ -13,7 +13,7 @@ field8-requires-2 : tie.Need-field8-requires-2
 field8-requires-2 c κs = search needs
 
 returns : tie.Need-returns
-returns c = cc
+returns c = λ i. record { offset = c .before .field8 .ensures i; size = c .field82 .ensures i }
 
 pub range-at-spec : {M : Type 1} → statement M
 range-at-spec = tie.close (tie.spec field8-requires add-field8 field8-requires-2 returns)

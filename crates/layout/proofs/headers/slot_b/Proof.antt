@@ -12,11 +12,11 @@ range-at-requires-2 : tie.Need-range-at-requires-2
 range-at-requires-2 c κs = search needs
 
 no-slot-requires : tie.Need-no-slot-requires
-no-slot-requires c κs = search needs
+no-slot-requires c κs = tt
 
 returns : tie.Need-returns
 unfolding slotB
-returns c = rw (slotB, eq-eqb _ _ (c .before .before .if1 .taken)) cc
+returns c = rw (slotB, eq-eqb _ _ (c .before .before .if1 .taken)) (λ i. record { descriptor = c .before .range-at .ensures i; partition = c .range-at2 .ensures i })
 
 returns-2 : tie.Need-returns-2
 unfolding slotB

@@ -10,7 +10,7 @@ use Rattle.layout.proofs.opening.open.Statement.{statement}
 use Rattle.layout.proofs.opening.open.Tie as tie
 
 length-allowed-requires : tie.Need-length-allowed-requires
-length-allowed-requires c κs = search needs
+length-allowed-requires c κs = tt
 
 returns : tie.Need-returns
 unfolding opened
@@ -27,7 +27,7 @@ unfolding lengthAllowed
 part-head-end c = leb-true _ _ (and-left _ _ (passed (c .before .length-allowed .ensures) (c .if1 .left)))
 
 judge-header-requires : tie.Need-judge-header-requires
-judge-header-requires c κs = search needs
+judge-header-requires c κs = tt
 
 enum-known-h : tie.Need-enum-known-h
 enum-known-h c = search needs
@@ -36,7 +36,7 @@ active-table-requires : tie.Need-active-table-requires
 active-table-requires c κs = header-checked _ _ _ (sym (c .before .before .before .judge-header .ensures) ∙ c .before .h .given .1) .geometry
 
 open-table-requires : tie.Need-open-table-requires
-open-table-requires c κs = search needs
+open-table-requires c κs = tt
 
 enum-known-r : tie.Need-enum-known-r
 enum-known-r c = search needs

@@ -6,7 +6,7 @@ use Rattle.layout.proofs.opening.open_second.Statement.{statement}
 use Rattle.layout.proofs.opening.open_second.Tie as tie
 
 judge-slot-requires : tie.Need-judge-slot-requires
-judge-slot-requires c κs = search needs
+judge-slot-requires c κs = tt
 
 enum-known-b : tie.Need-enum-known-b
 enum-known-b c = search needs

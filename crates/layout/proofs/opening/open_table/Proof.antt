@@ -7,20 +7,20 @@ use Rattle.layout.proofs.opening.open_table.Statement.{statement}
 use Rattle.layout.proofs.opening.open_table.Tie as tie
 
 table-matches-requires : tie.Need-table-matches-requires
-table-matches-requires c κs = search needs
+table-matches-requires c κs = tt
 
 returns : tie.Need-returns
 unfolding afterTable
 returns c = rw (afterTable, failed (c .before .table-matches .ensures) (c .if1 .taken))
 
 judge-slot-requires : tie.Need-judge-slot-requires
-judge-slot-requires c κs = search needs
+judge-slot-requires c κs = tt
 
 enum-known-a : tie.Need-enum-known-a
 enum-known-a c = search needs
 
 open-second-requires : tie.Need-open-second-requires
-open-second-requires c κs = search needs
+open-second-requires c κs = tt
 
 enum-known-r : tie.Need-enum-known-r
 enum-known-r c = search needs

@@ -9,10 +9,10 @@ use Rattle.layout.proofs.tables.active_table.Statement.{statement}
 use Rattle.layout.proofs.tables.active_table.Tie as tie
 
 active-range-requires : tie.Need-active-range-requires
-active-range-requires c κs = search needs
+active-range-requires c κs = tt
 
 part-of-requires : tie.Need-part-of-requires
-part-of-requires c κs = search needs
+part-of-requires c κs = tt
 
 returns : tie.Need-returns
 unfolding part

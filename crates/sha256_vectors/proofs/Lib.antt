@@ -1,0 +1,2 @@
+-- Three of the vectors, as theorems of the definition.
+mod Vectors
