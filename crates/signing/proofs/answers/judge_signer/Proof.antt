@@ -1,4 +1,11 @@
+-- `judge_signer` meets its contract. Assumes nothing.
+use mathlib.Core.Path.{sym, _∙_}
+use borrow.Author.Tests.{leb-true}
 use borrow.Author.Needs.{needs}
+use Rattle.number.specs.Ranges.{part}
+use Rattle.number.proofs.Tests.{failed, passed, and-left}
+use Rattle.layout.specs.Opening.{lengthAllowed}
+use Rattle.signing.proofs.AnswerLaws.{length-refused, disa-judged, diff-judged, neither-refused}
 use Rattle.signing.proofs.answers.judge_signer.Statement.{statement}
 use Rattle.signing.proofs.answers.judge_signer.Tie as tie
 use Rattle.signing.proofs.answers.judge_signer.Reads as reads
@@ -7,53 +14,56 @@ use Rattle.layout.proofs.magic.opens_as.Reads as opens-as-reads
 use Rattle.layout.proofs.opening.length_allowed.Reads as length-allowed-reads
 use Rattle.signing.proofs.answers.judge_kind.Reads as judge-kind-reads
 
--- src/answers.rt:48:9
 length-allowed-requires : tie.Need-length-allowed-requires
 length-allowed-requires c κs = search needs
 
--- src/answers.rt:49:9
 returns : tie.Need-returns
-returns c = ?
+returns c =
+    let a = c .before .before .before .args in
+    length-refused (a .image .now) (a .signer) (failed (c .before .length-allowed .ensures) (c .if1 .taken))
 
--- src/answers.rt:51:16
 sub-head : tie.Need-sub-head
 sub-head c = search needs
 
--- src/answers.rt:51:16
 part-head-start : tie.Need-part-head-start
 part-head-start c = search needs
 
--- src/answers.rt:51:16
 part-head-end : tie.Need-part-head-end
-part-head-end c = ?
+unfolding lengthAllowed
+part-head-end c = leb-true _ _ (and-left _ _ (passed (c .before .length-allowed .ensures) (c .if1 .left)))
 
--- src/answers.rt:52:8
 opens-as-requires : tie.Need-opens-as-requires
 opens-as-requires c κs = search needs
 
--- src/answers.rt:53:9
 judge-kind-requires : tie.Need-judge-kind-requires
 judge-kind-requires c κs = search needs
 
--- src/answers.rt:54:15
 opens-as-requires-2 : tie.Need-opens-as-requires-2
 opens-as-requires-2 c κs = search needs
 
--- src/answers.rt:55:9
 judge-kind-requires-2 : tie.Need-judge-kind-requires-2
 judge-kind-requires-2 c κs = search needs
 
--- src/answers.rt:45:1
 returns-2 : tie.Need-returns-2
-returns-2 c = ?
+unfolding part
+returns-2 c =
+    let a = c .before .before .before .before .before .before .before .args in
+    disa-judged (a .image .now) (a .signer) (passed (c .before .before .before .before .before .length-allowed .ensures) (c .before .before .before .before .if1 .left)) _
+    (sym (c .before .before .opens-as .ensures) ∙ c .before .if2 .taken) (c .judge-kind .ensures _)
 
--- src/answers.rt:45:1
 returns-3 : tie.Need-returns-3
-returns-3 c = ?
+unfolding part
+returns-3 c =
+    let a = c .before .before .before .before .before .before .before .before .before .args in
+    diff-judged (a .image .now) (a .signer) (passed (c .before .before .before .before .before .before .before .length-allowed .ensures) (c .before .before .before .before .before .before .if1 .left))
+    (sym (c .before .before .before .before .opens-as .ensures) ∙ c .before .before .before .if2 .left) _ (sym (c .before .before .opens-as2 .ensures) ∙ c .before .if3 .taken) (c .judge-kind2 .ensures _)
 
--- src/answers.rt:45:1
 returns-4 : tie.Need-returns-4
-returns-4 c = ?
+unfolding part
+returns-4 c =
+    let a = c .before .before .before .before .before .before .before .before .args in
+    neither-refused (a .image .now) (a .signer) (passed (c .before .before .before .before .before .before .length-allowed .ensures) (c .before .before .before .before .before .if1 .left))
+    (sym (c .before .before .before .opens-as .ensures) ∙ c .before .before .if2 .left) (sym (c .before .opens-as2 .ensures) ∙ c .if3 .left)
 
 pub judge-signer-spec : {M : Type 1} → statement M
 judge-signer-spec =

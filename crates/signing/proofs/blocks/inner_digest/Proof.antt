@@ -1,4 +1,8 @@
+-- `inner_digest` meets its contract. Assumes nothing.
+use mathlib.Core.Path.{ap, _∙_}
 use borrow.Author.Needs.{needs}
+use Rattle.sha256.specs.Sha256.{sha256}
+use Rattle.signing.proofs.BlockLaws.{inner-made}
 use Rattle.signing.proofs.blocks.inner_digest.Statement.{statement}
 use Rattle.signing.proofs.blocks.inner_digest.Tie as tie
 use Rattle.signing.proofs.blocks.inner_digest.Reads as reads
@@ -6,37 +10,31 @@ use Rattle.signing.proofs.blocks.inner_digest.Lts as lts
 use Rattle.number.proofs.runs.copy_into.Reads as copy-into-reads
 use Rattle.sha256.proofs.digest.Reads as digest-reads
 
--- src/blocks.rt:53:15
 slice-aggregate-copy-into : tie.Need-slice-aggregate-copy-into
 slice-aggregate-copy-into c = search needs
 
--- src/blocks.rt:53:30
 slice-aggregate-copy-into-2 : tie.Need-slice-aggregate-copy-into-2
 slice-aggregate-copy-into-2 c = search needs
 
--- src/blocks.rt:53:5
 copy-into-requires : tie.Need-copy-into-requires
 copy-into-requires c κs = search needs
 
--- src/blocks.rt:54:15
 slice-aggregate-copy-into-3 : tie.Need-slice-aggregate-copy-into-3
 slice-aggregate-copy-into-3 c = search needs
 
--- src/blocks.rt:54:5
 copy-into-requires-2 : tie.Need-copy-into-requires-2
 copy-into-requires-2 c κs = search needs
 
--- src/blocks.rt:55:12
 slice-aggregate-digest : tie.Need-slice-aggregate-digest
 slice-aggregate-digest c = search needs
 
--- src/blocks.rt:55:5
 digest-requires : tie.Need-digest-requires
 digest-requires c κs = search needs
 
--- src/blocks.rt:49:1
 returns : tie.Need-returns
-returns c = ?
+returns c =
+    let a = c .before .before .before .before .before .before .before .before .before .before .args in
+    c .digest .ensures ∙ ap sha256 (inner-made (a .header .now) _ _ ? (c .before .before .before .before .before .before .before .copy-into .ensures) (c .before .before .before .copy-into2 .ensures))
 
 pub inner-digest-spec : {M : Type 1} → statement M
 inner-digest-spec =
