@@ -76,5 +76,4 @@ pub fn finish(running: Running) -> Finished
 // From a fresh start any cutting gives the digest of the whole: the check asks for it by its statement.
 pub fn any_cutting()
     ensures { λ _. ⌜ AnyCutting ⌝ }
-{
-}
+{}
