@@ -1,4 +1,4 @@
--- `advance`: the test decides which half of `Feeds` is to be shown, and contradicts the other's premise.
+-- `advance`: the test decides which half of `Feeds` is to be shown, and contradicts the other's premise. Assumes nothing.
 use native.Mathlib.Omega.{arith}
 use mathlib.Core.Path.{refl, sym, _∙_}
 use borrow.Author.Needs.{needs}

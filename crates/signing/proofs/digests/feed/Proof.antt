@@ -1,6 +1,6 @@
--- `digests::feed` meets its contract: a walk of its MIR, by hand. The borrow is opened and stays open over the call: the record behind it is copied out, `advance` is called on
--- the copy, the record that it gives is stored, and the borrow is closed at that record. All that the proof knows of `advance` is that it meets its contract.
--- Assumes nothing.
+-- `feed` meets its contract: a walk of its MIR, by hand. The borrow is opened and stays open over the call: the state behind it is copied out,
+-- `advance` is called on the copy, the state that it gives is stored, and the borrow is closed at that state. All that the proof knows of
+-- `advance` is that it meets its contract. Assumes nothing.
 use mathlib.Core.Path.{refl, ap}
 use Prim.Native.Nat.{ℕ}
 use mathlib.Core.List.{[], _∷_, List}

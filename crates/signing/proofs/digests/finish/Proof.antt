@@ -1,4 +1,4 @@
--- `finish`: as `advance`, with a piece of no bytes.
+-- `finish`: as `advance`, with a piece of no bytes. Assumes nothing.
 use native.Mathlib.Omega.{arith}
 use mathlib.Core.Path.{refl, sym, _∙_}
 use borrow.Author.Needs.{needs}
