@@ -48,8 +48,8 @@ header-copied image zeros after z h e = e ∙ sets-whole zeros (take 0x100 (drop
 module _ (image : List ℕ) (c : Container) (g : Guarantees image c) (header : List ℕ) (same : header ≡ headerBytes image) (at off : ℕ)
     (flag : at ≡ flagOffset (c .header .kind)) (place : off ≡ hashRange (c .header .kind) .offset)
     (table digest : List ℕ) (range : Range) (r : range ≡ inactive (c .header)) (t : table ≡ part image range) (d : digest ≡ sha256 table) where
-  pub hash-fits : off + length digest ≤ length (set header at (1 - c .header .flag))
-  hash-fits =
+  pub hash-fits : (v : ℕ) → off + length digest ≤ length (set header at v)
+  hash-fits v =
       rw (d, length-sha256 table, length-set, place, same, header-length image (g .shortest)) (hash-inside (c .header .kind))
 
   pub header-made : (after : List ℕ) → after ≡ sets (set header at (1 - c .header .flag)) off digest → after ≡ headerCommitted c image

@@ -157,7 +157,7 @@ rehash-rehash-requires t c κs =
       (
         rw size (p .0),
         omega (arith, p .1),
-        rw (c .before .parent-of .ensures, c .parent-of2 .ensures) (parent-mono _ _ _ (p .2)),
+        rw (c .before .parent-of .ensures, c .parent-of2 .ensures) (parent-mono _ _ _ (omega (arith, p .2))),
         rw (c .parent-of2 .ensures, c .before .before .before .before .before .before .before .level-of .ensures)
             (parent-above (levelOf (a .view)) (p .0 .rules .hash) (a .i) (a .last) some (p .1) (p .3)),
       ),

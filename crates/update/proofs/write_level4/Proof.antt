@@ -50,7 +50,7 @@ rehash-requires c κs =
       omega arith,
       rw (c .before .block-of .ensures, c .block-of2 .ensures) (block-mono _ _ _ (omega (arith, c .before .before .before .before .before .before .before .before .if1 .taken))),
       rw (c .block-of2 .ensures, c .before .before .before .before .before .before .before .level-of .ensures)
-          (last-exists (a .space) (a .view) (a .image .now) (a .x) (a .values .now) (s .pre) (c .before .before .before .before .before .before .before .before .if1 .taken)),
+          (last-exists (a .space) (a .view) (a .image .now) (a .x) (a .values .now) (s .pre) (omega (arith, c .before .before .before .before .before .before .before .before .if1 .taken))),
     )
 
 same-length : tie.Need-same-length
@@ -61,7 +61,7 @@ returns c =
     let a = c .before .before .before .before .before .before .before .before .before .before .before .before .before .before .args in
     c .before .before .rehash .ensures
     ∙ rw (c .before .before .before .before .before .before .before .before .put-level .ensures, c .before .before .before .block-of2 .ensures, c .before .before .before .before .block-of .ensures, c .before .before .before .before .before .before .before .before .before .before .level-of .ensures)
-    (sym (write-some (a .view) (a .x) (a .values .now) (a .image .now) (c .before .before .before .before .before .before .before .before .before .before .before .if1 .taken)))
+    (sym (write-some (a .view) (a .x) (a .values .now) (a .image .now) (omega (arith, c .before .before .before .before .before .before .before .before .before .before .before .if1 .taken))))
 
 returns-2 : tie.Need-returns-2
 returns-2 c =

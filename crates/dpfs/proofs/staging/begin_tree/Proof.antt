@@ -11,13 +11,13 @@ place-of-requires : tie.Need-place-of-requires
 place-of-requires c κs =
     let s = c .before .before in
     let w = among-placed (s .args .space) (length (s .args .image .now)) (s .pre .0) (s .args .tree) (s .pre .1) in
-    omega (arith, w .inside1, w .limit)
+    omega (arith, w .inside1, w .inside3, w .limit)
 
 place-of-requires-2 : tie.Need-place-of-requires-2
 place-of-requires-2 c κs =
     let s = c .before .before .before .before in
     let w = among-placed (s .args .space) (length (s .args .image .now)) (s .pre .0) (s .args .tree) (s .pre .1) in
-    omega (arith, w .inside1, w .limit)
+    omega (arith, w .inside1, w .inside3, w .limit)
 
 copy-within-requires : tie.Need-copy-within-requires
 copy-within-requires c κs =

@@ -36,7 +36,8 @@ returns c =
     let a = c .before .before .before .before .before .before .before .args in
     let l = c .before .before .before .before .before .loop in
     let r = c .before .before .before .compare-from in
-    row-stops (matches (a .view) (a .image .now) (a .i)) (l .b) (r .result .hashed) (r .result .before) (a .end) (r .ensures .0 .1) (r .ensures .0 .2) (c .before .if1 .taken)
+    row-stops (matches (a .view) (a .image .now) (a .i)) (l .b) (r .result .hashed) (r .result .before) (a .end) (r .ensures .0 .1) (r .ensures .0 .2)
+    (omega (arith, c .before .if1 .taken, r .ensures .0 .2, first-to (matches (a .view) (a .image .now) (a .i)) (l .b) (r .result .hashed)))
     ∙ sym (l .inv .2)
 
 add-b : tie.Need-add-b Inv-loop μ-loop

@@ -2,6 +2,7 @@ use Rattle.steps.proofs.HeaderLaws.{flag-small, flag-inside, hash-fits,
 use mathlib.Core.Path.{ap}
 use Prim.Native.Nat.{ℕ}
 use Rattle.number.specs.declared.Range.{Range}
+use native.Mathlib.Omega.{arith}
 use borrow.Author.Needs.{needs}
 use Rattle.steps.proofs.committing.next_header.Statement.{statement}
 use Rattle.steps.proofs.committing.next_header.Tie as tie
@@ -16,10 +17,10 @@ flag-offset-requires : tie.Need-flag-offset-requires
 flag-offset-requires c κs = search needs
 
 sub-header : tie.Need-sub-header
-sub-header c = flag-small (c .before .before .before .before .before .args .image .now) (c .before .before .before .before .before .args .c) (c .before .before .before .before .before .pre)
+sub-header c = omega (arith, flag-small (c .before .before .before .before .before .args .image .now) (c .before .before .before .before .before .args .c) (c .before .before .before .before .before .pre))
 
 cast-header : tie.Need-cast-header
-cast-header c = search needs
+cast-header c = omega (arith, flag-small (c .before .before .before .before .before .args .image .now) (c .before .before .before .before .before .args .c) (c .before .before .before .before .before .pre))
 
 array-write-header : tie.Need-array-write-header
 array-write-header c = rw (c .before .flag-offset .ensures) (flag-inside (c .before .before .before .before .before .args .c .header .kind))
@@ -43,7 +44,7 @@ slice-aggregate-copy-into-2 : tie.Need-slice-aggregate-copy-into-2
 slice-aggregate-copy-into-2 c = search needs
 
 copy-into-requires : tie.Need-copy-into-requires
-copy-into-requires c κs = hash-fits (c .before .before .before .before .before .before .before .before .before .before .before .args .image .now) (c .before .before .before .before .before .before .before .before .before .before .before .args .c) (c .before .before .before .before .before .before .before .before .before .before .before .pre) (c .before .before .before .before .before .before .before .before .header-of .result) (c .before .before .before .before .before .before .before .before .header-of .ensures) (c .before .before .before .before .before .before .before .flag-offset .result) (c .before .hash-range .result .offset) (c .before .before .before .before .before .before .before .flag-offset .ensures) (ap offset (c .before .hash-range .ensures)) (c .before .before .before .before .part-of .result .now) (c .before .before .before .digest .result) (c .before .before .before .before .before .inactive-range .result) (c .before .before .before .before .before .inactive-range .ensures) (c .before .before .before .before .part-of .ensures) (c .before .before .before .digest .ensures)
+copy-into-requires c κs = hash-fits (c .before .before .before .before .before .before .before .before .before .before .before .args .image .now) (c .before .before .before .before .before .before .before .before .before .before .before .args .c) (c .before .before .before .before .before .before .before .before .before .before .before .pre) (c .before .before .before .before .before .before .before .before .header-of .result) (c .before .before .before .before .before .before .before .before .header-of .ensures) (c .before .before .before .before .before .before .before .flag-offset .result) (c .before .hash-range .result .offset) (c .before .before .before .before .before .before .before .flag-offset .ensures) (ap offset (c .before .hash-range .ensures)) (c .before .before .before .before .part-of .result .now) (c .before .before .before .digest .result) (c .before .before .before .before .before .inactive-range .result) (c .before .before .before .before .before .inactive-range .ensures) (c .before .before .before .before .part-of .ensures) (c .before .before .before .digest .ensures) _
 
 returns : tie.Need-returns
 returns c = header-made (c .before .before .before .before .before .before .before .before .before .before .before .before .before .args .image .now) (c .before .before .before .before .before .before .before .before .before .before .before .before .before .args .c) (c .before .before .before .before .before .before .before .before .before .before .before .before .before .pre) (c .before .before .before .before .before .before .before .before .before .before .header-of .result) (c .before .before .before .before .before .before .before .before .before .before .header-of .ensures) (c .before .before .before .before .before .before .before .before .before .flag-offset .result) (c .before .before .before .hash-range .result .offset) (c .before .before .before .before .before .before .before .before .before .flag-offset .ensures) (ap offset (c .before .before .before .hash-range .ensures)) (c .before .before .before .before .before .before .part-of .result .now) (c .before .before .before .before .before .digest .result) (c .before .before .before .before .before .before .before .inactive-range .result) (c .before .before .before .before .before .before .before .inactive-range .ensures) (c .before .before .before .before .before .before .part-of .ensures) (c .before .before .before .before .before .digest .ensures) _ (c .before .copy-into .ensures)

@@ -34,7 +34,7 @@ unfolding levelOf
 first-unvouched-requires c κs = (c .before .before .before .before .before .before .pre, in-order (c .before .before .before .before .before .before .args .view) (c .before .before .before .before .before .before .args .image .now) (c .before .before .before .before .before .before .args .place) (c .before .before .before .before .before .before .args .n) (passed (c .before .before .before .before .lies-inside .ensures) (c .before .before .before .if1 .left)) (c .before .block-of .result) (c .block-of2 .result) (c .before .before .if2 .left) (c .before .block-of .ensures) (c .block-of2 .ensures), last-there (c .before .before .before .before .before .before .args .view) (c .before .before .before .before .before .before .args .image .now) (c .before .before .before .before .before .before .args .place) (c .before .before .before .before .before .before .args .n) (passed (c .before .before .before .before .lies-inside .ensures) (c .before .before .before .if1 .left)) (c .before .block-of .result) (c .block-of2 .result) (c .before .before .if2 .left) (c .before .block-of .ensures) (c .block-of2 .ensures))
 
 returns-3 : tie.Need-returns-3
-returns-3 c = write-above (c .before .before .before .before .before .before .before .before .args .view) (c .before .before .before .before .before .before .before .before .args .image .now) (c .before .before .before .before .before .before .before .before .args .place) (c .before .before .before .before .before .before .before .before .args .n) (passed (c .before .before .before .before .before .before .lies-inside .ensures) (c .before .before .before .before .before .if1 .left)) (c .before .before .before .block-of .result) (c .before .before .block-of2 .result) (c .before .before .before .before .if2 .left) (c .before .before .before .block-of .ensures) (c .before .before .block-of2 .ensures) (c .before .first-unvouched .result) (c .before .first-unvouched .ensures) (c .if3 .taken)
+returns-3 c = write-above (c .before .before .before .before .before .before .before .before .args .view) (c .before .before .before .before .before .before .before .before .args .image .now) (c .before .before .before .before .before .before .before .before .args .place) (c .before .before .before .before .before .before .before .before .args .n) (passed (c .before .before .before .before .before .before .lies-inside .ensures) (c .before .before .before .before .before .if1 .left)) (c .before .before .before .block-of .result) (c .before .before .block-of2 .result) (c .before .before .before .before .if2 .left) (c .before .before .before .block-of .ensures) (c .before .before .block-of2 .ensures) (c .before .first-unvouched .result) (c .before .first-unvouched .ensures) (omega (arith, c .if3 .taken))
 
 judge-ends-requires : tie.Need-judge-ends-requires
 judge-ends-requires c κs = end-rules (c .before .before .before .before .before .before .before .before .args .view) (c .before .before .before .before .before .before .before .before .args .image .now) (c .before .before .before .before .before .before .before .before .args .place) (c .before .before .before .before .before .before .before .before .args .n) (passed (c .before .before .before .before .before .before .lies-inside .ensures) (c .before .before .before .before .before .if1 .left)) (c .before .before .before .block-of .result) (c .before .before .block-of2 .result) (c .before .before .before .before .if2 .left) (c .before .before .before .block-of .ensures) (c .before .before .block-of2 .ensures) (c .before .first-unvouched .result) (c .before .first-unvouched .ensures) (c .before .before .before .before .before .before .before .before .pre) (c .if3 .left)

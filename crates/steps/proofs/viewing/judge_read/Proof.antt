@@ -36,7 +36,7 @@ first-unverified-requires c κs =
 
 returns-3 : tie.Need-returns-3
 returns-3 c =
-    read-lowest _ _ _ _ (passed (c .before .before .before .before .before .before .lies-inside .ensures) (c .before .before .before .before .before .if1 .left)) _ _ (c .before .before .before .before .if2 .left) (c .before .before .before .block-of .ensures) (c .before .before .block-of2 .ensures) _ (c .before .first-unverified .ensures) (c .if3 .taken)
+    read-lowest _ _ _ _ (passed (c .before .before .before .before .before .before .lies-inside .ensures) (c .before .before .before .before .before .if1 .left)) _ _ (c .before .before .before .before .if2 .left) (c .before .before .before .block-of .ensures) (c .before .before .block-of2 .ensures) _ (c .before .first-unverified .ensures) (omega (arith, c .if3 .taken))
 
 returns-4 : tie.Need-returns-4
 returns-4 c =
