@@ -36,3 +36,53 @@ pub inner-made : (header first second : List ℕ) → length header ≡ 256
 unfolding innerBlock
 inner-made header first second n e f =
     f ∙ ap (λ (s : List ℕ). sets s 8 header) e ∙ sets-two (replicate 264 0) 8 (0x43 ∷ 0x54 ∷ 0x52 ∷ 0x2D ∷ 0x53 ∷ 0x41 ∷ 0x56 ∷ 0x30 ∷ []) header refl (omega (arith, n, length-replicate {A = ℕ} 264 0))
+
+-- ---- the parts' lengths
+
+letters-length : (signer : Signer) → length (letters signer) ≡ 8
+letters-length Card = refl
+letters-length (Title id) = refl
+letters-length (System id) = refl
+letters-length (Extdata id file) = refl
+letters-length (Database id) = refl
+
+fields-length : (signer : Signer) → length (laidOut (fields signer)) ≤ 20
+unfolding laidOut fieldBytes
+fields-length Card = omega arith
+fields-length (Title id) = omega arith
+fields-length (System id) = omega arith
+fields-length (Extdata id Quota) = omega arith
+fields-length (Extdata id (Device file folder)) = omega arith
+fields-length (Database id) = omega arith
+
+-- ---- the block in its array: letters, fields, tail
+
+module _ (signer : Signer) (shape : Shape) (s : ShapeOf signer shape) where
+  pub shape-letters : length (shape .letters) ≡ 8
+  shape-letters = ap length (s .letters) ∙ letters-length signer
+
+  pub shape-fields : length (laidOut (shape .fields)) ≤ 20
+  shape-fields = rw (s .fields) (fields-length signer)
+
+  module _ (zeros header first second third : List ℕ) (at end : ℕ) (a : first ≡ sets zeros 0 (shape .letters)) (b : second ≡ sets first 8 (laidOut (shape .fields)))
+      (n : at ≡ 8 + length (laidOut (shape .fields))) (c : third ≡ sets second at (tailOf (shape .hashed) header))
+      (m : end ≡ at + length (tailOf (shape .hashed) header)) where
+    made-of : signingBlock signer header ≡ (shape .letters ++ laidOut (shape .fields)) ++ tailOf (shape .hashed) header
+    unfolding signingBlock block
+    made-of = rw (s .letters, s .fields, s .hashed) refl
+
+    front : length (shape .letters ++ laidOut (shape .fields)) ≡ at
+    front = length-append (shape .letters) (laidOut (shape .fields)) ∙ omega (arith, shape-letters, n)
+
+    pub block-made : third ≡ sets zeros 0 (signingBlock signer header)
+    block-made =
+        c ∙ ap (λ (l : List ℕ). sets l at (tailOf (shape .hashed) header))
+        (b ∙ ap (λ (l : List ℕ). sets l 8 (laidOut (shape .fields))) a
+        ∙ sets-append zeros 0 8 (shape .letters) (laidOut (shape .fields)) (omega (arith, shape-letters)))
+        ∙ sets-append zeros 0 at (shape .letters ++ laidOut (shape .fields)) (tailOf (shape .hashed) header) (omega (arith, front))
+        ∙ ap (sets zeros 0) (sym made-of)
+
+    pub block-ends : end ≡ length (signingBlock signer header)
+    block-ends =
+        m ∙ ap (λ (k : ℕ). k + length (tailOf (shape .hashed) header)) (sym front)
+        ∙ sym (length-append (shape .letters ++ laidOut (shape .fields)) (tailOf (shape .hashed) header)) ∙ ap length (sym made-of)

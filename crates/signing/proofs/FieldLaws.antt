@@ -5,11 +5,12 @@ use mathlib.Core.Logic.{_⊎_, inl, inr}
 use Prim.Native.Nat.{ℕ, zero, suc, _+_, _-_, _*_, _/_, _%_, _^_, _≤_, _<_}
 use native.Mathlib.Omega.{arith}
 use native.Mathlib.Nat.{div-lt-iff-lt-mul, pow-suc}
-use lib.ListN.{length, getD, set, take, drop, length-append, List·getD-append}
+use lib.ListN.{length, getD, set, take, drop, length-append, drop-of-length-le, List·getD-append}
 use native.Mathlib.Numerals.{add-one}
 use lib.Seq.{sets, drop-at, drop-cons, take-at, getD-append-add}
 use Rattle.number.specs.Bytes.{Outside}
 use Rattle.number.specs.Ranges.{part}
+use Rattle.number.proofs.ListLaws.{sets-append}
 use Rattle.signing.specs.declared.Field.{Field}
 use Rattle.signing.specs.Blocks.{fieldBytes, laidOut, block, field}
 use Rattle.signing.specs.Placing.{numberOf, offsetOf, Placing}
@@ -100,3 +101,23 @@ pub laid-step : (fields : List Field) (k : ℕ) → k < length fields
     → laidOut (drop k fields) ≡ fieldBytes (getD fields k (field 0 0) .size) (getD fields k (field 0 0) .value) ++ laidOut (drop (k + 1) fields)
 unfolding laidOut
 laid-step fields k h = ap laidOut (drop-cons fields k (field 0 0) h) ∙ ap (λ (j : ℕ). fieldBytes (getD fields k (field 0 0) .size) (getD fields k (field 0 0) .value) ++ laidOut (drop j fields)) (sym (add-one k))
+
+module _ (fields : List Field) (k : ℕ) (h : k < length fields) where
+  pub left-length : length (laidOut (drop k fields)) ≡ getD fields k (field 0 0) .size + length (laidOut (drop (k + 1) fields))
+  left-length =
+      let f : Field = getD fields k (field 0 0) in
+      ap length (laid-step fields k h) ∙ length-append (fieldBytes (f .size) (f .value)) (laidOut (drop (k + 1) fields))
+      ∙ ap (λ (n : ℕ). n + length (laidOut (drop (k + 1) fields))) (length-field (f .size) (f .value))
+
+  pub left-stored : (s after : List ℕ) (end : ℕ) → after ≡ sets s end (fieldBytes (getD fields k (field 0 0) .size) (getD fields k (field 0 0) .value))
+      → sets after (end + getD fields k (field 0 0) .size) (laidOut (drop (k + 1) fields)) ≡ sets s end (laidOut (drop k fields))
+  left-stored s after end e =
+      let f : Field = getD fields k (field 0 0) in
+      ap (λ (t : List ℕ). sets t (end + f .size) (laidOut (drop (k + 1) fields))) e
+      ∙ sets-append s end (end + f .size) (fieldBytes (f .size) (f .value)) (laidOut (drop (k + 1) fields)) (ap (λ (n : ℕ). end + n) (sym (length-field (f .size) (f .value))))
+      ∙ ap (sets s end) (sym (laid-step fields k h))
+
+-- all fields are stored
+pub none-left : (fields : List Field) (k : ℕ) → length fields ≤ k → laidOut (drop k fields) ≡ []
+unfolding laidOut
+none-left fields k h = ap laidOut (drop-of-length-le fields h)

@@ -12,6 +12,7 @@ ghost use Prim.Native.Nat.{ℕ, _+_, _≤_};
 ghost use lib.ListN.{length, replicate};
 ghost use lib.Seq.{sets};
 ghost use Rattle.sha256.specs.Sha256.{sha256};
+ghost use Rattle.signing.specs.Placing.{Placing};
 ghost use Rattle.signing.specs.Blocks.{fieldBytes, laidOut, innerBlock, tailOf, signingBlock};
 
 // Stores a field at a place, its least significant byte first.
@@ -85,3 +86,8 @@ pub fn build(signer: Signer, header: &[u8; 256]) -> Block
         length: end as u64,
     }
 }
+
+// The placing of fields is one law for all blocks: the check asks for it by its statement.
+pub fn placing()
+    ensures { λ _. ⌜ Placing ⌝ }
+{}

@@ -5,10 +5,6 @@ use Rattle.signing.proofs.AnswerLaws.{kind-fits, kind-differs}
 use borrow.Author.Needs.{needs}
 use Rattle.signing.proofs.answers.judge_kind.Statement.{statement}
 use Rattle.signing.proofs.answers.judge_kind.Tie as tie
-use Rattle.signing.proofs.answers.judge_kind.Reads as reads
-use Rattle.signing.proofs.answers.judge_kind.Lts as lts
-use Rattle.signing.proofs.answers.same_kind.Reads as same-kind-reads
-use Rattle.signing.proofs.shapes.kind_of.Reads as kind-of-reads
 
 kind-of-requires : tie.Need-kind-of-requires
 kind-of-requires c κs = search needs

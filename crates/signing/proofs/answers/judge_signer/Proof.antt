@@ -8,11 +8,6 @@ use Rattle.layout.specs.Opening.{lengthAllowed}
 use Rattle.signing.proofs.AnswerLaws.{length-refused, disa-judged, diff-judged, neither-refused}
 use Rattle.signing.proofs.answers.judge_signer.Statement.{statement}
 use Rattle.signing.proofs.answers.judge_signer.Tie as tie
-use Rattle.signing.proofs.answers.judge_signer.Reads as reads
-use Rattle.signing.proofs.answers.judge_signer.Lts as lts
-use Rattle.layout.proofs.magic.opens_as.Reads as opens-as-reads
-use Rattle.layout.proofs.opening.length_allowed.Reads as length-allowed-reads
-use Rattle.signing.proofs.answers.judge_kind.Reads as judge-kind-reads
 
 length-allowed-requires : tie.Need-length-allowed-requires
 length-allowed-requires c κs = search needs

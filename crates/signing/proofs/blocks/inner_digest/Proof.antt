@@ -1,14 +1,11 @@
 -- `inner_digest` meets its contract. Assumes nothing.
 use mathlib.Core.Path.{ap, _∙_}
+use native.Mathlib.Omega.{arith}
 use borrow.Author.Needs.{needs}
 use Rattle.sha256.specs.Sha256.{sha256}
 use Rattle.signing.proofs.BlockLaws.{inner-made}
 use Rattle.signing.proofs.blocks.inner_digest.Statement.{statement}
 use Rattle.signing.proofs.blocks.inner_digest.Tie as tie
-use Rattle.signing.proofs.blocks.inner_digest.Reads as reads
-use Rattle.signing.proofs.blocks.inner_digest.Lts as lts
-use Rattle.number.proofs.runs.copy_into.Reads as copy-into-reads
-use Rattle.sha256.proofs.digest.Reads as digest-reads
 
 slice-aggregate-copy-into : tie.Need-slice-aggregate-copy-into
 slice-aggregate-copy-into c = search needs
@@ -34,7 +31,7 @@ digest-requires c κs = search needs
 returns : tie.Need-returns
 returns c =
     let a = c .before .before .before .before .before .before .before .before .before .before .args in
-    c .digest .ensures ∙ ap sha256 (inner-made (a .header .now) _ _ ? (c .before .before .before .before .before .before .before .copy-into .ensures) (c .before .before .before .copy-into2 .ensures))
+    c .digest .ensures ∙ ap sha256 (inner-made (a .header .now) _ _ (omega arith) (c .before .before .before .before .before .before .before .copy-into .ensures) (c .before .before .before .copy-into2 .ensures))
 
 pub inner-digest-spec : {M : Type 1} → statement M
 inner-digest-spec =

@@ -9,8 +9,6 @@ use Rattle.signing.specs.Blocks.{fieldBytes}
 use Rattle.signing.proofs.FieldLaws.{field-starts, field-step, field-ends}
 use Rattle.signing.proofs.blocks.put_field.Statement.{statement}
 use Rattle.signing.proofs.blocks.put_field.Tie as tie
-use Rattle.signing.proofs.blocks.put_field.Reads as reads
-use Rattle.signing.proofs.blocks.put_field.Lts as lts
 
 abbrev Inv-loop : tie.InvT-loop
 Inv-loop block₀ at size value rest₀ k₀ block rest k =
@@ -41,7 +39,7 @@ loop-again : tie.Need-loop-again Inv-loop μ-loop
 loop-again c =
     let l = c .before .loop in
     let a = c .before .before .args in
-    (length-set _ _ _ ∙ l .inv .0, omega arith, sym (field-step (l .block) (a .at) (a .size) (l .k) (l .rest) (omega arith)) ∙ l .inv .2)
+    (simp length-set (l .inv .0), omega arith, sym (field-step (l .block) (a .at) (a .size) (l .k) (l .rest) (omega arith)) ∙ l .inv .2)
 
 same-length : tie.Need-same-length Inv-loop μ-loop
 same-length c = c .before .loop .inv .0

@@ -1,54 +1,66 @@
+-- `put_fields` stores fields one after the other. The invariant: what is stored, with the fields that are left, is all of them. Assumes nothing.
+use mathlib.Core.Path.{_≡_, refl, sym, ap, _∙_}
+use Prim.Native.Nat.{ℕ, _+_, _-_, _≤_, _<_}
+use native.Mathlib.Omega.{arith}
+use lib.ListN.{length, drop}
+use lib.Seq.{sets}
+use borrow.Author.Needs.{needs}
+use Rattle.signing.specs.Blocks.{laidOut}
+use Rattle.signing.proofs.FieldLaws.{left-length, left-stored, none-left}
 use Rattle.signing.proofs.blocks.put_fields.Statement.{statement}
 use Rattle.signing.proofs.blocks.put_fields.Tie as tie
-use Rattle.signing.proofs.blocks.put_fields.Reads as reads
-use Rattle.signing.proofs.blocks.put_fields.Lts as lts
-use Rattle.signing.proofs.blocks.put_field.Reads as put-field-reads
 
 abbrev Inv-loop : tie.InvT-loop
-Inv-loop block₀ at fields end₀ k₀ block end k = ?
+Inv-loop block₀ at fields end₀ k₀ block end k =
+    (length block ≡ length block₀) × (k ≤ 4) × (end + length (laidOut (drop k fields)) ≡ at + length (laidOut fields))
+    × (sets block end (laidOut (drop k fields)) ≡ sets block₀ at (laidOut fields))
 
 abbrev μ-loop : tie.MeasureT-loop
-μ-loop block₀ at fields end₀ k₀ block end k = ?
+μ-loop block₀ at fields end₀ k₀ block end k = 4 - k
 
--- src/blocks.rt:39:5
 loop-holds : tie.Need-loop-holds Inv-loop μ-loop
-loop-holds c = ?
+loop-holds c = (refl, omega arith, refl, refl)
 
--- src/blocks.rt:40:21
 mul-field : tie.Need-mul-field Inv-loop μ-loop
-mul-field c = ?
+mul-field c = search needs
 
--- src/blocks.rt:40:21
 array-copy-out-field : tie.Need-array-copy-out-field Inv-loop μ-loop
-array-copy-out-field c = ?
+array-copy-out-field c = search needs
 
--- src/blocks.rt:41:9
 put-field-requires : tie.Need-put-field-requires Inv-loop μ-loop
-put-field-requires c κs = ?
+put-field-requires c κs =
+    let s = c .before .before .before .before .before in
+    let l = c .before .before .before .loop in
+    omega (arith, left-length (s .args .t3) (l .k) (omega arith))
 
--- src/blocks.rt:42:9
 add-end : tie.Need-add-end Inv-loop μ-loop
-add-end c = ?
+add-end c =
+    let s = c .before .before .before .before .before .before .before .before in
+    let l = c .before .before .before .before .before .before .loop in
+    omega (arith, left-length (s .args .t3) (l .k) (omega arith))
 
--- src/blocks.rt:43:9
 add-k : tie.Need-add-k Inv-loop μ-loop
-add-k c = ?
+add-k c = search needs
 
--- src/blocks.rt:39:5
 loop-less : tie.Need-loop-less Inv-loop μ-loop
-loop-less c = ?
+loop-less c = search needs
 
--- src/blocks.rt:39:5
 loop-again : tie.Need-loop-again Inv-loop μ-loop
-loop-again c = ?
+loop-again c =
+    let s = c .before .before .before .before .before .before .before .before in
+    let l = c .before .before .before .before .before .before .loop in
+    let h : l .k < length (s .args .t3) = omega arith in
+    (c .before .before .put-field .kept .0 ∙ l .inv .0, omega arith, omega (arith, left-length (s .args .t3) (l .k) h), left-stored (s .args .t3) (l .k) h (l .block) _ (l .end) (c .before .before .put-field .ensures) ∙ l .inv .3)
 
--- src/blocks.rt:33:1
 same-length : tie.Need-same-length Inv-loop μ-loop
-same-length c = ?
+same-length c = c .before .loop .inv .0
 
--- src/blocks.rt:33:1
 returns : tie.Need-returns Inv-loop μ-loop
-returns c = ?
+returns c =
+    let s = c .before .before .before in
+    let l = c .before .loop in
+    let e = none-left (s .args .t3) (l .k) (omega arith) in
+    (ap (sets (l .block) (l .end)) (sym e) ∙ l .inv .3, omega (arith, l .inv .2, ap length e))
 
 pub put-fields-spec : {M : Type 1} → statement M
 put-fields-spec =

@@ -1,14 +1,11 @@
 -- `put_tail` meets its contract. Assumes nothing.
 use mathlib.Core.Path.{ap, _∙_}
 use lib.Seq.{sets}
+use native.Mathlib.Omega.{arith}
 use borrow.Author.Needs.{needs}
 use Rattle.signing.proofs.BlockLaws.{tail-hashed, tail-hashed-ends, tail-plain, tail-plain-ends}
 use Rattle.signing.proofs.blocks.put_tail.Statement.{statement}
 use Rattle.signing.proofs.blocks.put_tail.Tie as tie
-use Rattle.signing.proofs.blocks.put_tail.Reads as reads
-use Rattle.signing.proofs.blocks.put_tail.Lts as lts
-use Rattle.number.proofs.runs.copy_into.Reads as copy-into-reads
-use Rattle.signing.proofs.blocks.inner_digest.Reads as inner-digest-reads
 
 inner-digest-requires : tie.Need-inner-digest-requires
 inner-digest-requires c κs = search needs
@@ -44,7 +41,7 @@ returns-2 : tie.Need-returns-2
 returns-2 c =
     let a = c .before .before .before .before .before .before .before .args in
     (c .before .before .copy-into2 .ensures ∙ ap (sets (a .block .now) (a .at)) (tail-plain _ (a .header .now) (c .before .before .before .before .before .if1 .left)),
-     tail-plain-ends _ (a .at) (a .header .now) (c .before .before .before .before .before .if1 .left) ?)
+     tail-plain-ends _ (a .at) (a .header .now) (c .before .before .before .before .before .if1 .left) (omega arith))
 
 pub put-tail-spec : {M : Type 1} → statement M
 put-tail-spec =

@@ -1,10 +1,9 @@
+-- `extdata_shape` meets its contract: by the table's line. Assumes nothing.
 use mathlib.Core.Path.{refl}
 use Rattle.signing.specs.Blocks.{fieldBytes, laidOut}
 use borrow.Author.Needs.{needs}
 use Rattle.signing.proofs.shapes.extdata_shape.Statement.{statement}
 use Rattle.signing.proofs.shapes.extdata_shape.Tie as tie
-use Rattle.signing.proofs.shapes.extdata_shape.Reads as reads
-use Rattle.signing.proofs.shapes.extdata_shape.Lts as lts
 
 enum-told : tie.Need-enum-told
 enum-told c = search needs

@@ -1,11 +1,9 @@
+-- `shape_of` meets its contract: by the table's line. Assumes nothing.
 use mathlib.Core.Path.{refl}
 use Rattle.signing.specs.Blocks.{fieldBytes, laidOut}
 use borrow.Author.Needs.{needs}
 use Rattle.signing.proofs.shapes.shape_of.Statement.{statement}
 use Rattle.signing.proofs.shapes.shape_of.Tie as tie
-use Rattle.signing.proofs.shapes.shape_of.Reads as reads
-use Rattle.signing.proofs.shapes.shape_of.Lts as lts
-use Rattle.signing.proofs.shapes.extdata_shape.Reads as extdata-shape-reads
 
 enum-told : tie.Need-enum-told
 enum-told c = search needs
