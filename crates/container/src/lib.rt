@@ -1,3 +1,4 @@
 // The public calls, and nothing else: none of them asks anything of its caller.
 pub mod reading;
 pub mod sessions;
+pub mod signing;

@@ -1,20 +1,26 @@
 -- Whether a signer has a block, as the code asks it. Assumes nothing.
 use mathlib.Core.Path.{_≡_, refl, sym, _∙_}
-use mathlib.Core.Bool.{Bool, true, false}
+use mathlib.Core.Bool.{Bool, true, false, cond}
 use mathlib.Core.List.{List}
-use Prim.Native.Nat.{ℕ}
+use Prim.Native.Nat.{ℕ, _≤_}
+use native.Mathlib.Omega.{arith}
+use borrow.Author.Tests.{leb-true}
+use lib.Dec.{leb}
 use lib.ListN.{length}
+use Rattle.number.proofs.Tests.{and-left}
 use Rattle.layout.specs.declared.Kind.{Kind}
 use Rattle.layout.specs.declared.Kind.the-variants.{Disa, Diff}
 use Rattle.layout.specs.declared.Outcome.{Outcome}
 use Rattle.layout.specs.declared.Outcome.the-variants as outcome
+use Rattle.layout.specs.declared.Refusal.{Refusal}
 use Rattle.layout.specs.declared.Refusal.the-variants.{Length, Format, SignerKind}
 use Rattle.layout.specs.Magic.{opensWith}
 use Rattle.layout.specs.Headers.{headerBytes, headerMagic}
 use Rattle.layout.specs.Opening.{lengthAllowed}
 use Rattle.signing.specs.declared.Signer.{Signer}
 use Rattle.signing.specs.Blocks.{kindOf}
-use Rattle.signing.specs.Calls.{sameKind, signedAs, signed, outcomeOf}
+use Rattle.signing.specs.Blocks.{signingBlock}
+use Rattle.signing.specs.Calls.{Answer, Signs, Refused, sameKind, signedAs, signed, outcomeOf}
 
 module _ (kind : Kind) (signer : Signer) (header : List ℕ) (r : Bool) (e : r ≡ sameKind kind (kindOf signer)) where
   pub kind-fits : r ≡ true → outcome.Accepted ≡ outcomeOf (signedAs kind signer header)
@@ -43,3 +49,43 @@ module _ (image : List ℕ) (signer : Signer) where
       pub neither-refused : opensWith (headerBytes image) (headerMagic Diff) ≡ false → outcome.Refused Format ≡ outcomeOf (signed image signer)
       unfolding signed
       neither-refused b = rw (signed, l, a, b) refl
+
+-- ---- what an answer says
+
+pub refused-is : (a : Answer) (r : Refusal) → outcomeOf a ≡ outcome.Refused r → a ≡ Refused r
+refused-is (Signs block) r e = absurd (let z : _≡_ {A = ℕ} 0 1 = cc in omega arith)
+refused-is (Refused s) r e = cc
+
+accepted-as : (kind : Kind) (signer : Signer) (header : List ℕ) → outcomeOf (signedAs kind signer header) ≡ outcome.Accepted
+    → signedAs kind signer header ≡ Signs (signingBlock signer header)
+accepted-as kind signer header e = go (sameKind kind (kindOf signer)) e
+  where
+    go : (t : Bool) → outcomeOf (cond t (Signs (signingBlock signer header)) (Refused SignerKind)) ≡ outcome.Accepted
+        → cond t (Signs (signingBlock signer header)) (Refused SignerKind) ≡ Signs (signingBlock signer header)
+    go true z = refl
+    go false z = absurd (let n : _≡_ {A = ℕ} 0 1 = cc in omega arith)
+
+long : (n : ℕ) → lengthAllowed n ≡ true → 0x200 ≤ n
+unfolding lengthAllowed
+long n l = leb-true 0x200 n (and-left (leb 0x200 n) _ l)
+
+never : {A : Type 0} (r : Refusal) → outcome.Refused r ≡ outcome.Accepted → A
+never r e = absurd (let z : _≡_ {A = ℕ} 0 1 = cc in omega arith)
+
+-- an accepted signer has its block of the header, and the image has one
+pub accepted-is : (image : List ℕ) (signer : Signer) → outcomeOf (signed image signer) ≡ outcome.Accepted
+    → (signed image signer ≡ Signs (signingBlock signer (headerBytes image))) × (0x200 ≤ length image)
+unfolding signed
+accepted-is image signer e =
+    by (lengthAllowed (length image)) (opensWith (headerBytes image) (headerMagic Disa)) (opensWith (headerBytes image) (headerMagic Diff)) refl refl refl
+  where
+    by : (l a b : Bool) → lengthAllowed (length image) ≡ l → opensWith (headerBytes image) (headerMagic Disa) ≡ a → opensWith (headerBytes image) (headerMagic Diff) ≡ b
+        → (signed image signer ≡ Signs (signingBlock signer (headerBytes image))) × (0x200 ≤ length image)
+    by false a b l p q = never Length (length-refused image signer l ∙ e)
+    by true true b l p q =
+        let j = disa-judged image signer l (outcomeOf (signedAs Disa signer (headerBytes image))) p refl in
+        (rw (signed, l, p) (accepted-as Disa signer (headerBytes image) (j ∙ e)), long (length image) l)
+    by true false true l p q =
+        let j = diff-judged image signer l p (outcomeOf (signedAs Diff signer (headerBytes image))) q refl in
+        (rw (signed, l, p, q) (accepted-as Diff signer (headerBytes image) (j ∙ e)), long (length image) l)
+    by true false false l p q = never Format (neither-refused image signer l p q ∙ e)

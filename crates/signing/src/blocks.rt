@@ -8,7 +8,7 @@ use number::runs::copy_into;
 use sha256::digest;
 ghost use mathlib.Core.Path.{_≡_};
 ghost use mathlib.Core.List.{List, _++_};
-ghost use Prim.Native.Nat.{ℕ, _+_, _≤_};
+ghost use Prim.Native.Nat.{ℕ, _+_, _-_, _≤_};
 ghost use lib.ListN.{length, replicate};
 ghost use lib.Seq.{sets};
 ghost use Rattle.sha256.specs.Sha256.{sha256};
@@ -59,7 +59,7 @@ fn inner_digest(header: &[u8; 256]) -> [u8; 32]
 // Stores the tail at a place, and says where it ends.
 fn put_tail(block: &mut [u8], at: usize, hashed: bool, header: &[u8; 256]) -> usize
     requires { ⌜ at + 256 ≤ length (now block) ⌝ }
-    ensures { λ r. ⌜ (now (block .exit) ≡ sets (now (block .entry)) at (tailOf hashed (now (header .entry)))) × (r ≡ at + length (tailOf hashed (now (header .entry)))) ⌝ }
+    ensures { λ r. ⌜ (now (block .exit) ≡ sets (now (block .entry)) at (tailOf hashed (now (header .entry)))) × (r ≡ at + length (tailOf hashed (now (header .entry)))) × (r ≤ at + 256) ⌝ }
 {
     if hashed {
         let hash = inner_digest(header);
@@ -70,9 +70,9 @@ fn put_tail(block: &mut [u8], at: usize, hashed: bool, header: &[u8; 256]) -> us
     at + 256
 }
 
-// The block that a signer signs of a header.
+// The block that a signer signs of a header, with zeros after it.
 pub fn build(signer: Signer, header: &[u8; 256]) -> Block
-    ensures { λ r. ⌜ (r .bytes ≡ sets (replicate 284 0) 0 (signingBlock signer (now (header .entry)))) × (r .length ≡ length (signingBlock signer (now (header .entry)))) ⌝ }
+    ensures { λ r. ⌜ (r .bytes ≡ signingBlock signer (now (header .entry)) ++ replicate (284 - length (signingBlock signer (now (header .entry)))) 0) × (r .length ≡ length (signingBlock signer (now (header .entry)))) ⌝ }
 {
     let shape = shape_of(signer);
     let letters = shape.letters;

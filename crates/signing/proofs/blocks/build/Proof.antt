@@ -1,8 +1,10 @@
 -- `build` meets its contract: letters, fields, tail, one after the other. Assumes nothing.
+use mathlib.Core.Path.{_∙_}
 use native.Mathlib.Omega.{arith}
 use lib.ListN.{replicate}
 use borrow.Author.Needs.{needs}
-use Rattle.signing.proofs.BlockLaws.{shape-letters, shape-fields, block-made, block-ends}
+use Rattle.signing.specs.Blocks.{signingBlock}
+use Rattle.signing.proofs.BlockLaws.{shape-letters, shape-fields, block-made, block-ends, padded}
 use Rattle.signing.proofs.blocks.build.Statement.{statement}
 use Rattle.signing.proofs.blocks.build.Tie as tie
 
@@ -37,8 +39,11 @@ returns c =
     let s = c .before .before .before .before .before .before .before .before .before .before .before .before .shape-of in
     let p = c .before .before .before .before .put-fields in
     let t = c .before .put-tail in
-    (block-made (a .signer) (s .result) (s .ensures) (replicate 284 0) (a .header .now) _ _ _ (p .result) (t .result) (c .before .before .before .before .before .before .before .copy-into .ensures) (p .ensures .0) (p .ensures .1) (t .ensures .0) (t .ensures .1),
-     block-ends (a .signer) (s .result) (s .ensures) (replicate 284 0) (a .header .now) _ _ _ (p .result) (t .result) (c .before .before .before .before .before .before .before .copy-into .ensures) (p .ensures .0) (p .ensures .1) (t .ensures .0) (t .ensures .1))
+    let made = block-made (a .signer) (s .result) (s .ensures) (replicate 284 0) (a .header .now) _ _ _ (p .result) (t .result)
+    (c .before .before .before .before .before .before .before .copy-into .ensures) (p .ensures .0) (p .ensures .1) (t .ensures .0) (t .ensures .1) in
+    let ends = block-ends (a .signer) (s .result) (s .ensures) (replicate 284 0) (a .header .now) _ _ _ (p .result) (t .result)
+    (c .before .before .before .before .before .before .before .copy-into .ensures) (p .ensures .0) (p .ensures .1) (t .ensures .0) (t .ensures .1) in
+    (made ∙ padded (signingBlock (a .signer) (a .header .now)) (omega (arith, ends, t .ensures .2, p .ensures .1, shape-fields _ _ (s .ensures))), ends)
 
 pub build-spec : {M : Type 1} → statement M
 build-spec =
