@@ -16,7 +16,7 @@ ghost use Rattle.signing.specs.Placing.{Placing};
 ghost use Rattle.signing.specs.Blocks.{fieldBytes, laidOut, innerBlock, tailOf, signingBlock};
 
 // Stores a field at a place, its least significant byte first.
-fn put_field(block: &mut [u8], at: usize, size: u64, value: u64)
+pub fn put_field(block: &mut [u8], at: usize, size: u64, value: u64)
     requires { ⌜ at + size ≤ length (now block) ⌝ }
     ensures { λ _. ⌜ now (block .exit) ≡ sets (now (block .entry)) at (fieldBytes size value) ⌝ }
 {
