@@ -1,9 +1,9 @@
 // The blocks that a signing box signs. The image is only read, and a refusal changes no lent byte.
 use layout::Outcome;
-use sha256::digest;
 use signing::Built;
 use signing::Signer;
 use signing::answers::judge_signer;
+use signing::blocks::block_digest;
 use signing::blocks::build;
 use steps::committing::header_of;
 ghost use mathlib.Core.Path.{_≡_};
@@ -34,10 +34,7 @@ pub fn signing_digest(image: &[u8], signer: Signer, out: &mut [u8; 32]) -> Outco
         return outcome;
     };
     let header = header_of(image);
-    let built = build(signer, &header);
-    let bytes = built.bytes;
-    let length = built.length as usize;
-    let hash = digest(&bytes[..length]);
+    let hash = block_digest(signer, &header);
     *out = hash;
     Outcome::Accepted
 }

@@ -1,12 +1,12 @@
 -- Whether a signer has a block, as the code asks it. Assumes nothing.
-use mathlib.Core.Path.{_≡_, refl, sym, _∙_}
+use mathlib.Core.Path.{_≡_, refl, sym, ap, _∙_}
 use mathlib.Core.Bool.{Bool, true, false, cond}
-use mathlib.Core.List.{List}
-use Prim.Native.Nat.{ℕ, _≤_}
+use mathlib.Core.List.{List, _++_}
+use Prim.Native.Nat.{ℕ, _-_, _≤_}
 use native.Mathlib.Omega.{arith}
 use borrow.Author.Tests.{leb-true}
 use lib.Dec.{leb}
-use lib.ListN.{length}
+use lib.ListN.{length, replicate}
 use Rattle.number.proofs.Tests.{and-left}
 use Rattle.layout.specs.declared.Kind.{Kind}
 use Rattle.layout.specs.declared.Kind.the-variants.{Disa, Diff}
@@ -17,10 +17,12 @@ use Rattle.layout.specs.declared.Refusal.the-variants.{Length, Format, SignerKi
 use Rattle.layout.specs.Magic.{opensWith}
 use Rattle.layout.specs.Headers.{headerBytes, headerMagic}
 use Rattle.layout.specs.Opening.{lengthAllowed}
+use Rattle.sha256.specs.Sha256.{sha256}
+use Rattle.signing.specs.declared.Built.the-variants as built
 use Rattle.signing.specs.declared.Signer.{Signer}
 use Rattle.signing.specs.Blocks.{kindOf}
 use Rattle.signing.specs.Blocks.{signingBlock}
-use Rattle.signing.specs.Calls.{Answer, Signs, Refused, sameKind, signedAs, signed, outcomeOf}
+use Rattle.signing.specs.Calls.{Answer, Signs, Refused, sameKind, signedAs, signed, outcomeOf, builtAs, blockLeft, digestLeft}
 
 module _ (kind : Kind) (signer : Signer) (header : List ℕ) (r : Bool) (e : r ≡ sameKind kind (kindOf signer)) where
   pub kind-fits : r ≡ true → outcome.Accepted ≡ outcomeOf (signedAs kind signer header)
@@ -89,3 +91,25 @@ accepted-is image signer e =
         let j = diff-judged image signer l p (outcomeOf (signedAs Diff signer (headerBytes image))) q refl in
         (rw (signed, l, p, q) (accepted-as Diff signer (headerBytes image) (j ∙ e)), long (length image) l)
     by true false false l p q = never Format (neither-refused image signer l p q ∙ e)
+
+-- ---- what the calls leave, by the judgement's outcome
+
+module _ (image : List ℕ) (signer : Signer) (o : Outcome) (e : o ≡ outcomeOf (signed image signer)) where
+  pub judged-long : o ≡ outcome.Accepted → 0x200 ≤ length image
+  judged-long a = accepted-is image signer (sym e ∙ a) .1
+
+  pub built-left : (before header bytes : List ℕ) (n : ℕ) → o ≡ outcome.Accepted → header ≡ headerBytes image
+      → bytes ≡ signingBlock signer header ++ replicate (284 - length (signingBlock signer header)) 0 → n ≡ length (signingBlock signer header)
+      → (built.Bytes n ≡ builtAs (signed image signer)) × (bytes ≡ blockLeft (signed image signer) before)
+  built-left before header bytes n a h b l = rw (accepted-is image signer (sym e ∙ a) .0, ← h) (ap built.Bytes l, b)
+
+  pub refused-left : (before : List ℕ) (r : Refusal) → o ≡ outcome.Refused r
+      → (built.Refused r ≡ builtAs (signed image signer)) × (before ≡ blockLeft (signed image signer) before)
+  refused-left before r a = rw (refused-is (signed image signer) r (sym e ∙ a)) (refl, refl)
+
+  pub digest-left : (before header bytes : List ℕ) → o ≡ outcome.Accepted → header ≡ headerBytes image → bytes ≡ sha256 (signingBlock signer header)
+      → (outcome.Accepted ≡ outcomeOf (signed image signer)) × (bytes ≡ digestLeft (signed image signer) before)
+  digest-left before header bytes a h b = rw (accepted-is image signer (sym e ∙ a) .0, ← h) (refl, b)
+
+  pub undigested-left : (before : List ℕ) (r : Refusal) → o ≡ outcome.Refused r → (o ≡ outcomeOf (signed image signer)) × (before ≡ digestLeft (signed image signer) before)
+  undigested-left before r a = (e, rw (refused-is (signed image signer) r (sym e ∙ a)) refl)

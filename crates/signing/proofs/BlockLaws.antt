@@ -5,8 +5,8 @@ use mathlib.Core.List.{List, [], _∷_, _++_}
 use Prim.Native.Nat.{ℕ, _+_, _-_, _≤_}
 use native.Mathlib.Omega.{arith}
 use native.Mathlib.Nat.{zero-add}
-use lib.ListN.{length, drop, replicate, length-append, length-replicate, replicate-append-replicate}
-use lib.Seq.{sets, sets-eq, drop-at}
+use lib.ListN.{length, take, drop, replicate, length-append, length-replicate, replicate-append-replicate}
+use lib.Seq.{sets, sets-eq, drop-at, take-at}
 use Rattle.number.proofs.ListLaws.{sets-append, sets-two}
 use Rattle.sha256.specs.Sha256.{sha256}
 use Rattle.sha256.proofs.Laws.{length-sha256}
@@ -99,3 +99,7 @@ drop-zeros n k h =
 pub padded : (l : List ℕ) → length l ≤ 284 → sets (replicate 284 0) 0 l ≡ l ++ replicate (284 - length l) 0
 padded l h =
     sets-eq l (replicate 284 0) 0 (omega (arith, h, length-replicate {A = ℕ} 284 0)) ∙ ap (λ (t : List ℕ). l ++ t) (drop-zeros 284 (0 + length l) (omega arith) ∙ ap (λ (k : ℕ). replicate (284 - k) 0) (zero-add (length l)))
+
+-- the block out of its array again
+pub taken : (l bytes : List ℕ) (n : ℕ) → bytes ≡ l ++ replicate (284 - length l) 0 → n ≡ length l → take n bytes ≡ l
+taken l bytes n e k = ap (take n) e ∙ take-at l (replicate (284 - length l) 0) n (sym k)

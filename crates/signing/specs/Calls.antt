@@ -54,9 +54,13 @@ abbrev pub builtAs : Answer → Built
 builtAs (Signs block) = built.Bytes (length block)
 builtAs (Refused r) = built.Refused r
 
+-- the longest block, that of extdata: as many bytes are lent
+abbrev pub longestBlock : ℕ
+longestBlock = 0x11C
+
 -- the block at the front of the lent bytes, zeros after it; a refusal leaves them alone
 abbrev pub blockLeft : Answer → (before : List ℕ) → List ℕ
-blockLeft (Signs block) before = block ++ replicate (length before - length block) 0
+blockLeft (Signs block) before = block ++ replicate (longestBlock - length block) 0
 blockLeft (Refused r) before = before
 
 -- the SHA-256 of the block, which is what is signed

@@ -72,7 +72,7 @@ fn put_tail(block: &mut [u8], at: usize, hashed: bool, header: &[u8; 256]) -> us
 
 // The block that a signer signs of a header, with zeros after it.
 pub fn build(signer: Signer, header: &[u8; 256]) -> Block
-    ensures { λ r. ⌜ (r .bytes ≡ signingBlock signer (now (header .entry)) ++ replicate (284 - length (signingBlock signer (now (header .entry)))) 0) × (r .length ≡ length (signingBlock signer (now (header .entry)))) ⌝ }
+    ensures { λ r. ⌜ (r .bytes ≡ signingBlock signer (now (header .entry)) ++ replicate (284 - length (signingBlock signer (now (header .entry)))) 0) × (r .length ≡ length (signingBlock signer (now (header .entry)))) × (r .length ≤ 284) ⌝ }
 {
     let shape = shape_of(signer);
     let letters = shape.letters;
@@ -85,6 +85,16 @@ pub fn build(signer: Signer, header: &[u8; 256]) -> Block
         bytes,
         length: end as u64,
     }
+}
+
+// Its SHA-256, which is what is signed.
+pub fn block_digest(signer: Signer, header: &[u8; 256]) -> [u8; 32]
+    ensures { λ r. ⌜ r ≡ sha256 (signingBlock signer (now (header .entry))) ⌝ }
+{
+    let built = build(signer, header);
+    let bytes = built.bytes;
+    let length = built.length as usize;
+    digest(&bytes[..length])
 }
 
 // The placing of fields is one law for all blocks: the check asks for it by its statement.

@@ -43,7 +43,8 @@ returns c =
     (c .before .before .before .before .before .before .before .copy-into .ensures) (p .ensures .0) (p .ensures .1) (t .ensures .0) (t .ensures .1) in
     let ends = block-ends (a .signer) (s .result) (s .ensures) (replicate 284 0) (a .header .now) _ _ _ (p .result) (t .result)
     (c .before .before .before .before .before .before .before .copy-into .ensures) (p .ensures .0) (p .ensures .1) (t .ensures .0) (t .ensures .1) in
-    (made ∙ padded (signingBlock (a .signer) (a .header .now)) (omega (arith, ends, t .ensures .2, p .ensures .1, shape-fields _ _ (s .ensures))), ends)
+    let small = shape-fields _ _ (s .ensures) in
+    (made ∙ padded (signingBlock (a .signer) (a .header .now)) (omega (arith, ends, t .ensures .2, p .ensures .1, small)), ends, omega (arith, t .ensures .2, p .ensures .1, small))
 
 pub build-spec : {M : Type 1} → statement M
 build-spec =

@@ -24,10 +24,11 @@ same-length c = search needs
 
 returns : tie.Need-returns
 returns c =
-    let a = c .before .before .before .before .before .before .before .before .args in
-    (c .before .before .copy-into .ensures ∙ ap (sets (a .block .now) (a .at)) (c .before .before .before .before .before .inner-digest .ensures ∙ tail-hashed _ (a .header .now) (c .before .before .before .before .before .before .if1 .taken)),
-     tail-hashed-ends _ (a .at) (a .header .now) (c .before .before .before .before .before .before .if1 .taken),
-     omega arith)
+    let a = c .before .before .before .before .before .before .before .before .args in (
+      c .before .before .copy-into .ensures ∙ ap (sets (a .block .now) (a .at)) (c .before .before .before .before .before .inner-digest .ensures ∙ tail-hashed _ (a .header .now) (c .before .before .before .before .before .before .if1 .taken)),
+      tail-hashed-ends _ (a .at) (a .header .now) (c .before .before .before .before .before .before .if1 .taken),
+      omega arith,
+    )
 
 copy-into-requires-2 : tie.Need-copy-into-requires-2
 copy-into-requires-2 c κs = search needs
@@ -40,10 +41,11 @@ same-length-2 c = search needs
 
 returns-2 : tie.Need-returns-2
 returns-2 c =
-    let a = c .before .before .before .before .before .before .before .args in
-    (c .before .before .copy-into2 .ensures ∙ ap (sets (a .block .now) (a .at)) (tail-plain _ (a .header .now) (c .before .before .before .before .before .if1 .left)),
-     tail-plain-ends _ (a .at) (a .header .now) (c .before .before .before .before .before .if1 .left) (omega arith),
-     omega arith)
+    let a = c .before .before .before .before .before .before .before .args in (
+      c .before .before .copy-into2 .ensures ∙ ap (sets (a .block .now) (a .at)) (tail-plain _ (a .header .now) (c .before .before .before .before .before .if1 .left)),
+      tail-plain-ends _ (a .at) (a .header .now) (c .before .before .before .before .before .if1 .left) (omega arith),
+      omega arith,
+    )
 
 pub put-tail-spec : {M : Type 1} → statement M
 put-tail-spec =
