@@ -23,7 +23,7 @@ use Rattle.steps.specs.declared.Session.{Session}
 use Rattle.steps.specs.Reading.{refuseOutside}
 use Rattle.steps.specs.Sessions.{idle, begunImage, current, writeOutcome, committedImage}
 use Rattle.steps.specs.Calls.{After, unchanged, done, leaving, begin, beginIn, write, writeIn, commit, commitIn, abandon, Abandoned, readStaged, readStagedIn}
-use Rattle.history.specs.Model.{Call, Open, ReadCommitted, ReadStaged, IsVerified, CountVerified, Begin, Write, Commit, Abandon, Ruling, Accepted, Refused, rulingOf}
+use Rattle.history.specs.Model.{Call, Open, ReadCommitted, ReadStaged, IsVerified, CountVerified, SigningBlock, SigningDigest, Begin, Write, Commit, Abandon, Ruling, Accepted, Refused, rulingOf}
 use Rattle.history.specs.Run.{State, perform, ruled, next}
 
 pub not-both : {B : Type 0} {r : Ruling} → r ≡ Accepted → r ≡ Refused → B
@@ -95,6 +95,8 @@ refused (ReadCommitted q place buffer) st e = refl
 refused (ReadStaged q place buffer) st e = refl
 refused (IsVerified q b) st e = refl
 refused (CountVerified q) st e = refl
+refused (SigningBlock signer buffer) st e = refl
+refused (SigningDigest signer buffer) st e = refl
 refused Begin st e = kept-begin st (opened (st .image)) e
 refused (Write q place bytes) st e = kept-write st q place bytes (opened (st .image)) e
 refused Commit st e = kept-commit st (opened (st .image)) e
@@ -113,6 +115,8 @@ needsBegun (ReadCommitted q place buffer) = false
 needsBegun (ReadStaged q place buffer) = true
 needsBegun (IsVerified q b) = false
 needsBegun (CountVerified q) = false
+needsBegun (SigningBlock signer buffer) = false
+needsBegun (SigningDigest signer buffer) = false
 needsBegun Begin = false
 needsBegun (Write q place bytes) = true
 needsBegun Commit = true
@@ -129,6 +133,8 @@ idles (ReadStaged q place buffer) st n i = by (opened (st .image))
     by (opening.Valid c) = rw i
 idles (IsVerified q b) st n i = absurd (true≢false (sym n))
 idles (CountVerified q) st n i = absurd (true≢false (sym n))
+idles (SigningBlock signer buffer) st n i = absurd (true≢false (sym n))
+idles (SigningDigest signer buffer) st n i = absurd (true≢false (sym n))
 idles Begin st n i = absurd (true≢false (sym n))
 idles (Write q place bytes) st n i = by (opened (st .image))
   where
@@ -226,6 +232,8 @@ unopened (ReadCommitted q place buffer) st h = refl
 unopened (ReadStaged q place buffer) st h = refl
 unopened (IsVerified q b) st h = refl
 unopened (CountVerified q) st h = refl
+unopened (SigningBlock signer buffer) st h = refl
+unopened (SigningDigest signer buffer) st h = refl
 unopened Begin st h = by (opened (st .image)) refl
   where
     by : (o : Opened) → opened (st .image) ≡ o → beginIn (st .image) (st .session) o .image ≡ st .image

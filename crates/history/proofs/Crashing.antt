@@ -4,24 +4,34 @@ use mathlib.Core.Bool.{Bool, true, false, cond}
 use mathlib.Core.List.{List, [], _∷_}
 use Prim.Native.Nat.{ℕ}
 use native.Mathlib.Omega.{arith}
+use lib.ListN.{length}
 use lib.Dec.{ltb}
 use borrow.Author.Tests.{ltb-true}
 use Rattle.number.proofs.FrameLaws.{keeps-refl, keeps-trans}
 use Rattle.layout.specs.declared.Container.{Container}
 use Rattle.layout.specs.declared.Opened.the-variants as opening
 use Rattle.layout.specs.declared.Refusal.the-variants.{NoPartition}
+use Rattle.layout.specs.Headers.{headerBytes}
 use Rattle.layout.specs.Opening.{opened}
 use Rattle.views.specs.Places.{partitions, committedView}
 use Rattle.steps.specs.declared.Verdict.the-variants as verdict
 use Rattle.steps.specs.declared.Count.the-variants as count
 use Rattle.steps.specs.Reading.{readFrom, verdictOn, countIn}
 use Rattle.steps.specs.Calls.{After, unread, readIn, readCommitted, verifiedIn, isVerified, countVerifiedIn, countVerified}
-use Rattle.history.specs.Model.{Version, versionOf, readOf, judgedOf, countTrue, Call, Open, ReadCommitted, ReadStaged, IsVerified, CountVerified, Begin, Write, Commit, Abandon, Ruling, Accepted, Refused, Did}
+use Rattle.signing.specs.declared.Signer.{Signer}
+use Rattle.signing.specs.Calls.{signed}
+use Rattle.history.specs.Model.{Version, versionOf, readOf, judgedOf, countTrue, Call, Open, ReadCommitted, ReadStaged, IsVerified, CountVerified, SigningBlock, SigningDigest, Begin, Write, Commit, Abandon, Ruling, Accepted, Refused, Did}
 use Rattle.history.specs.Run.{State, perform, ruled, next, after, events, commits, commitOf}
 use Rattle.history.specs.Theorem.{SameAnswers, Left}
 use Rattle.history.proofs.VersionLaws.{read-version, judged-version, count-version}
 use Rattle.history.proofs.CallCases.{refused, begun-by, written-by}
 use Rattle.history.proofs.CallLaws.{CallLaws}
+
+-- what is signed is of an image's length and its header
+same-signed : (image left : List ℕ) → length left ≡ length image → headerBytes left ≡ headerBytes image
+    → (signer : Signer) → signed left signer ≡ signed image signer
+unfolding signed
+same-signed image left n h signer = rw (n, h)
 
 module _ (W : CallLaws) where
   -- no call but commit stores to a byte that is not free
@@ -32,6 +42,8 @@ module _ (W : CallLaws) where
   spares (ReadStaged q place buffer) st c h o = keeps-refl _ _
   spares (IsVerified q b) st c h o = keeps-refl _ _
   spares (CountVerified q) st c h o = keeps-refl _ _
+  spares (SigningBlock signer buffer) st c h o = keeps-refl _ _
+  spares (SigningDigest signer buffer) st c h o = keeps-refl _ _
   spares Begin st c h o = by (ruled Begin st) refl
     where
       by : (r : Ruling) → ruled Begin st ≡ r → Left c (st .image) (next Begin st .image)
@@ -73,6 +85,7 @@ module _ (W : CallLaws) where
     reads = λ q place buffer. ap (readIn left q place buffer) o' ∙ reads q place buffer (ltb q (partitions c)) refl ∙ sym (ap (readIn image q place buffer) o);
     questions = λ q b. ap (verifiedIn left q b) o' ∙ questions q b (ltb q (partitions c)) refl ∙ sym (ap (verifiedIn image q b) o);
     counts = λ q. ap (countVerifiedIn left q) o' ∙ counts q (ltb q (partitions c)) refl ∙ sym (ap (countVerifiedIn image q) o);
+    signing = same-signed image left (k .size) (W .frame image left c o k .header);
   }
     where
       o' : opened left ≡ opening.Valid c

@@ -17,7 +17,7 @@ use Rattle.steps.specs.declared.Count.the-variants as count
 use Rattle.steps.specs.declared.Session.{Session}
 use Rattle.steps.specs.Sessions.{idle, begunImage, current, tableStaged, committedImage}
 use Rattle.steps.specs.Calls.{After, readCommitted, readStaged, isVerified, countVerified}
-use Rattle.history.specs.Model.{Version, versionOf, laidOver, Call, Open, ReadCommitted, ReadStaged, IsVerified, CountVerified, Begin, Write, Commit, Abandon, Answer, Reading, Judging, Counting, Ruling, Accepted, Refused, Model, advance, followed, readOf, readStagedOf, judgedOf, countTrue, says}
+use Rattle.history.specs.Model.{Version, versionOf, laidOver, Call, Open, ReadCommitted, ReadStaged, IsVerified, CountVerified, SigningBlock, SigningDigest, Begin, Write, Commit, Abandon, Answer, Reading, Judging, Counting, Ruling, Accepted, Refused, Model, advance, followed, readOf, readStagedOf, judgedOf, countTrue, says}
 use Rattle.history.specs.Run.{State, perform, ruled, next, after, events}
 use Rattle.history.specs.Theorem.{Has, Start, committedIn, stagedIn, Follows, History, Left}
 use Rattle.history.proofs.VersionLaws.{never}
@@ -169,6 +169,8 @@ module _ (W : CallLaws) where
     by-accepted (ReadStaged q place buffer) e = g
     by-accepted (IsVerified q b) e = g
     by-accepted (CountVerified q) e = g
+    by-accepted (SigningBlock signer buffer) e = g
+    by-accepted (SigningDigest signer buffer) e = g
     by-accepted Begin e = by-begin e
     by-accepted (Write q place bytes) e = by-write q place bytes e
     by-accepted Commit e = by-commit e
@@ -208,6 +210,8 @@ module _ (W : CallLaws) where
         let o = own q p (Counting (count.Blocks (countTrue (m .committed .verified)))) a e in
         ap Counting (ap (countVerified (st .image)) (o .0)
         ∙ counted (st .image) c (g .has .opens) p (g .has .there) ∙ ap (λ (v : Version). count.Blocks (countTrue (v .verified))) (g .committed)) ∙ o .1
+    answers (SigningBlock signer buffer) a e = never e
+    answers (SigningDigest signer buffer) a e = never e
     answers Begin a e = never e
     answers (Write q place bytes) a e = never e
     answers Commit a e = never e

@@ -22,7 +22,7 @@ use Rattle.ivfc.specs.Views.{contentOf, verified}
 use Rattle.views.specs.Places.{viewIn, committedView, stagedView}
 use Rattle.layout.specs.declared.Outcome.the-variants as outcome
 use Rattle.steps.specs.Calls.{readCommitted}
-use Rattle.history.specs.Model.{Version, versionOf, laidOver, lowest, readOf, Call, Open, ReadCommitted, ReadStaged, IsVerified, CountVerified, Begin, Write, Commit, Abandon, Ruling, Accepted, Refused, Event, Did, Model, advance, followed}
+use Rattle.history.specs.Model.{Version, versionOf, laidOver, lowest, readOf, Call, Open, ReadCommitted, ReadStaged, IsVerified, CountVerified, SigningBlock, SigningDigest, Begin, Write, Commit, Abandon, Ruling, Accepted, Refused, Event, Did, Model, advance, followed}
 use Rattle.history.specs.Run.{State, perform, ruled, next, after, events, beginOf, begins, commitOf, commits, Put, putBy, valueAt, later, lastValue}
 use Rattle.history.specs.Theorem.{Has, Start, committedIn, levelIn, byteIn, verifiedIn, Landed}
 use Rattle.history.proofs.VersionLaws.{never, length-flags, getD-flags}
@@ -40,6 +40,8 @@ Allowed p m (ReadCommitted q place buffer) = Unit {0}
 Allowed p m (ReadStaged q place buffer) = Unit {0}
 Allowed p m (IsVerified q b) = Unit {0}
 Allowed p m (CountVerified q) = Unit {0}
+Allowed p m (SigningBlock signer buffer) = Unit {0}
+Allowed p m (SigningDigest signer buffer) = Unit {0}
 Allowed p m Begin = Unit {0}
 Allowed p m (Write q place bytes) = (m .staged ≡ none → ⊥) × (q ≡ p → place + length bytes ≤ m .committed .level .size)
 Allowed p m Commit = m .staged ≡ none → ⊥
@@ -66,6 +68,8 @@ module _ (W : CallLaws) where
   allowed p st m g (ReadStaged q place buffer) e = tt
   allowed p st m g (IsVerified q b) e = tt
   allowed p st m g (CountVerified q) e = tt
+  allowed p st m g (SigningBlock signer buffer) e = tt
+  allowed p st m g (SigningDigest signer buffer) e = tt
   allowed p st m g Begin e = tt
   allowed p st m g (Write q place bytes) e =
       let c = g .has .container in
@@ -118,6 +122,8 @@ rest p (Did (ReadCommitted q place buffer) Accepted ∷ es) v l b = rests-on p _
 rest p (Did (ReadStaged q place buffer) Accepted ∷ es) v l b = rests-on p _ es v (rest p es v (l .1) (omega arith)) refl refl refl
 rest p (Did (IsVerified q c) Accepted ∷ es) v l b = rests-on p _ es v (rest p es v (l .1) (omega arith)) refl refl refl
 rest p (Did (CountVerified q) Accepted ∷ es) v l b = rests-on p _ es v (rest p es v (l .1) (omega arith)) refl refl refl
+rest p (Did (SigningBlock signer buffer) Accepted ∷ es) v l b = rests-on p _ es v (rest p es v (l .1) (omega arith)) refl refl refl
+rest p (Did (SigningDigest signer buffer) Accepted ∷ es) v l b = rests-on p _ es v (rest p es v (l .1) (omega arith)) refl refl refl
 rest p (Did Begin Accepted ∷ es) v l b = absurd (omega arith)
 rest p (Did (Write q place bytes) Accepted ∷ es) v l b = absurd (l .0 .0 refl)
 rest p (Did Commit Accepted ∷ es) v l b = absurd (l .0 refl)
@@ -194,6 +200,10 @@ live p (Did (ReadStaged q place buffer) Accepted ∷ es) old v l b c =
     lands-on p _ es _ _ v (live p es old v (l .1) (omega arith) (omega arith)) refl refl refl
 live p (Did (IsVerified q d) Accepted ∷ es) old v l b c = lands-on p _ es _ _ v (live p es old v (l .1) (omega arith) (omega arith)) refl refl refl
 live p (Did (CountVerified q) Accepted ∷ es) old v l b c = lands-on p _ es _ _ v (live p es old v (l .1) (omega arith) (omega arith)) refl refl refl
+live p (Did (SigningBlock signer buffer) Accepted ∷ es) old v l b c =
+    lands-on p _ es _ _ v (live p es old v (l .1) (omega arith) (omega arith)) refl refl refl
+live p (Did (SigningDigest signer buffer) Accepted ∷ es) old v l b c =
+    lands-on p _ es _ _ v (live p es old v (l .1) (omega arith) (omega arith)) refl refl refl
 live p (Did Begin Accepted ∷ es) old v l b c = absurd (omega arith)
 live p (Did (Write q place bytes) Accepted ∷ es) old v l b c =
     lands-put p q place bytes es old v (l .0 .1) (λ w k. live p es old w k (omega arith) (omega arith)) (l .1)
@@ -215,6 +225,10 @@ landing p (Did (ReadStaged q place buffer) Accepted ∷ es) v l b c =
     lands-on p _ es _ _ v (landing p es v (l .1) (omega arith) (omega arith)) refl refl refl
 landing p (Did (IsVerified q d) Accepted ∷ es) v l b c = lands-on p _ es _ _ v (landing p es v (l .1) (omega arith) (omega arith)) refl refl refl
 landing p (Did (CountVerified q) Accepted ∷ es) v l b c = lands-on p _ es _ _ v (landing p es v (l .1) (omega arith) (omega arith)) refl refl refl
+landing p (Did (SigningBlock signer buffer) Accepted ∷ es) v l b c =
+    lands-on p _ es _ _ v (landing p es v (l .1) (omega arith) (omega arith)) refl refl refl
+landing p (Did (SigningDigest signer buffer) Accepted ∷ es) v l b c =
+    lands-on p _ es _ _ v (landing p es v (l .1) (omega arith) (omega arith)) refl refl refl
 landing p (Did Begin Accepted ∷ es) v l b c = lands-on p _ es _ _ v (live p es v v (l .1) (omega arith) (omega arith)) refl refl refl
 landing p (Did (Write q place bytes) Accepted ∷ es) v l b c = absurd (l .0 .0 refl)
 landing p (Did Commit Accepted ∷ es) v l b c = absurd (l .0 refl)
@@ -333,6 +347,8 @@ stays (ReadCommitted q place buffer) Accepted st e i b = refl
 stays (ReadStaged q place buffer) Accepted st e i b = refl
 stays (IsVerified q c) Accepted st e i b = refl
 stays (CountVerified q) Accepted st e i b = refl
+stays (SigningBlock signer buffer) Accepted st e i b = refl
+stays (SigningDigest signer buffer) Accepted st e i b = refl
 stays Begin Accepted st e i b = absurd (omega arith)
 stays (Write q place bytes) Accepted st e i b = not-both e (idles (Write q place bytes) st refl i)
 stays Commit Accepted st e i b = not-both e (idles Commit st refl i)

@@ -24,6 +24,9 @@ use Rattle.steps.specs.declared.Count.{Count}
 use Rattle.steps.specs.declared.Count.the-variants as count
 use Rattle.steps.specs.Reading.{Read, said}
 use Rattle.steps.specs.Calls.{unread}
+use Rattle.signing.specs.declared.Signer.{Signer}
+use Rattle.signing.specs.declared.Built.{Built}
+use Rattle.signing.specs.declared.Built.the-variants as built
 
 -- ---- a version: level 4's bytes, and which of its blocks are verified
 
@@ -67,17 +70,20 @@ pub data Call : Type 0 where
   ReadCommitted ReadStaged : (partition place : ℕ) → (buffer : List ℕ) → Call
   IsVerified : (partition block : ℕ) → Call
   CountVerified : (partition : ℕ) → Call
+  SigningBlock SigningDigest : (signer : Signer) → (buffer : List ℕ) → Call
   Begin : Call
   Write : (partition place : ℕ) → (bytes : List ℕ) → Call
   Commit : Call
   Abandon : Call
 
--- what a call answers, in the types of crate container
+-- what a call answers, in the types of crate container, and what its buffer holds then
 pub data Answer : Type 0 where
   Opening : Opened → Answer
   Reading : Read → Answer
   Judging : Verdict → Answer
   Counting : Count → Answer
+  Building : Built → (buffer : List ℕ) → Answer
+  Digesting : Outcome → (buffer : List ℕ) → Answer
   Stepping : Outcome → Answer
 
 -- whether it was accepted
@@ -97,6 +103,9 @@ ruling (Judging verdict.No) = Accepted
 ruling (Judging (verdict.Refused r)) = Refused
 ruling (Counting (count.Blocks n)) = Accepted
 ruling (Counting (count.Refused r)) = Refused
+ruling (Building (built.Bytes n) buffer) = Accepted
+ruling (Building (built.Refused r) buffer) = Refused
+ruling (Digesting outcome buffer) = rulingOf outcome
 ruling (Stepping outcome) = rulingOf outcome
 
 -- a call of a list, and whether it was accepted
@@ -124,6 +133,8 @@ advance p (ReadCommitted q place buffer) Accepted m = m
 advance p (ReadStaged q place buffer) Accepted m = m
 advance p (IsVerified q b) Accepted m = m
 advance p (CountVerified q) Accepted m = m
+advance p (SigningBlock signer buffer) Accepted m = m
+advance p (SigningDigest signer buffer) Accepted m = m
 advance p c Refused m = m
 
 -- the model after a list
@@ -171,6 +182,8 @@ says p m (ReadCommitted q place buffer) = cond (eqb q p) (some (Reading (readOf 
 says p m (ReadStaged q place buffer) = cond (eqb q p) (some (Reading (readStagedOf (m .staged) place buffer))) none
 says p m (IsVerified q b) = cond (eqb q p) (some (Judging (judgedOf (m .committed) b))) none
 says p m (CountVerified q) = cond (eqb q p) (some (Counting (count.Blocks (countTrue (m .committed .verified))))) none
+says p m (SigningBlock signer buffer) = none
+says p m (SigningDigest signer buffer) = none
 says p m Begin = none
 says p m (Write q place bytes) = none
 says p m Commit = none

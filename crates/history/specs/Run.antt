@@ -9,7 +9,8 @@ use Rattle.number.specs.Bytes.{within}
 use Rattle.layout.specs.Opening.{opened}
 use Rattle.steps.specs.declared.Session.{Session}
 use Rattle.steps.specs.Calls.{After, readCommitted, readStaged, isVerified, countVerified, begin, write, commit, abandon}
-use Rattle.history.specs.Model.{Call, Open, ReadCommitted, ReadStaged, IsVerified, CountVerified, Begin, Write, Commit, Abandon, Answer, Opening, Reading, Judging, Counting, Stepping, Ruling, Accepted, Refused, ruling, Event, Did}
+use Rattle.signing.specs.Calls.{signed, builtAs, outcomeOf, blockLeft, digestLeft}
+use Rattle.history.specs.Model.{Call, Open, ReadCommitted, ReadStaged, IsVerified, CountVerified, SigningBlock, SigningDigest, Begin, Write, Commit, Abandon, Answer, Opening, Reading, Judging, Counting, Building, Digesting, Stepping, Ruling, Accepted, Refused, ruling, Event, Did}
 
 pub record State : Type 0 where
   pub image : List ℕ
@@ -34,6 +35,9 @@ perform (ReadCommitted q place buffer) st = answered st (Reading (readCommitted 
 perform (ReadStaged q place buffer) st = answered st (Reading (readStaged (st .image) (st .session) q place buffer))
 perform (IsVerified q b) st = answered st (Judging (isVerified (st .image) q b))
 perform (CountVerified q) st = answered st (Counting (countVerified (st .image) q))
+perform (SigningBlock signer buffer) st = answered st (Building (builtAs (signed (st .image) signer)) (blockLeft (signed (st .image) signer) buffer))
+perform (SigningDigest signer buffer) st =
+    answered st (Digesting (outcomeOf (signed (st .image) signer)) (digestLeft (signed (st .image) signer) buffer))
 perform Begin st = stepped (begin (st .image) (st .session))
 perform (Write q place bytes) st = stepped (write (st .image) (st .session) q place bytes)
 perform Commit st = stepped (commit (st .image) (st .session))
@@ -66,6 +70,8 @@ beginOf (Did (ReadCommitted q place buffer) Accepted) = 0
 beginOf (Did (ReadStaged q place buffer) Accepted) = 0
 beginOf (Did (IsVerified q b) Accepted) = 0
 beginOf (Did (CountVerified q) Accepted) = 0
+beginOf (Did (SigningBlock signer buffer) Accepted) = 0
+beginOf (Did (SigningDigest signer buffer) Accepted) = 0
 beginOf (Did Begin Accepted) = 1
 beginOf (Did (Write q place bytes) Accepted) = 0
 beginOf (Did Commit Accepted) = 0
@@ -78,6 +84,8 @@ commitOf (Did (ReadCommitted q place buffer) Accepted) = 0
 commitOf (Did (ReadStaged q place buffer) Accepted) = 0
 commitOf (Did (IsVerified q b) Accepted) = 0
 commitOf (Did (CountVerified q) Accepted) = 0
+commitOf (Did (SigningBlock signer buffer) Accepted) = 0
+commitOf (Did (SigningDigest signer buffer) Accepted) = 0
 commitOf (Did Begin Accepted) = 0
 commitOf (Did (Write q place bytes) Accepted) = 0
 commitOf (Did Commit Accepted) = 1
@@ -104,6 +112,8 @@ putBy p (Did (ReadCommitted q place buffer) Accepted) = none
 putBy p (Did (ReadStaged q place buffer) Accepted) = none
 putBy p (Did (IsVerified q b) Accepted) = none
 putBy p (Did (CountVerified q) Accepted) = none
+putBy p (Did (SigningBlock signer buffer) Accepted) = none
+putBy p (Did (SigningDigest signer buffer) Accepted) = none
 putBy p (Did Begin Accepted) = none
 putBy p (Did (Write q place bytes) Accepted) = cond (eqb q p) (some (record { place = place; bytes = bytes })) none
 putBy p (Did Commit Accepted) = none

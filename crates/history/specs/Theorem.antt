@@ -15,6 +15,8 @@ use Rattle.ivfc.specs.Views.{contentOf, verified}
 use Rattle.views.specs.Places.{partitions, partitionOf, committedView, stagedView, spaceOf}
 use Rattle.layout.specs.declared.Outcome.the-variants as outcome
 use Rattle.steps.specs.Calls.{readCommitted, isVerified, countVerified}
+use Rattle.signing.specs.declared.Signer.{Signer}
+use Rattle.signing.specs.Calls.{signed}
 use Rattle.history.specs.Model.{Version, versionOf, Call, Begin, Commit, Abandon, Answer, Accepted, Event, Model, followed, says}
 use Rattle.history.specs.Run.{State, perform, ruled, next, after, events, begins, commits, lastValue}
 
@@ -62,12 +64,13 @@ HistoryTheorem = (p : ℕ) (st : State) (start : Start p st) (calls : List Call)
 
 -- ---- power failure
 
--- opening, and the committed reads and questions of every partition, answer alike
+-- opening, the committed reads and questions of every partition, and signing, answer alike
 pub record SameAnswers (image left : List ℕ) : Type 0 where
   pub opening : opened left ≡ opened image
   pub reads : (q place : ℕ) (buffer : List ℕ) → readCommitted left q place buffer ≡ readCommitted image q place buffer
   pub questions : (q b : ℕ) → isVerified left q b ≡ isVerified image q b
   pub counts : (q : ℕ) → countVerified left q ≡ countVerified image q
+  pub signing : (signer : Signer) → signed left signer ≡ signed image signer
 
 -- an image that has another one's bytes where they are not free
 abbrev pub Left : Container → (image left : List ℕ) → Type 0
