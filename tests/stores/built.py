@@ -4,7 +4,7 @@ import json
 import pathlib
 import sys
 
-from mir import items, mir_text, read_term
+from mir import items, library_crates, mir_text, read_term
 
 # Words that one notation has and the other has not.
 BRACKETS = {'lnil', 'lcons', 'tnil', 'tcons', 'place', 'local', 'steps', 'direct', 'fnref', 'pair', 'lenlit', 'lit', 'width', 'value', 'ty', 'home',
@@ -57,7 +57,8 @@ def built_statements(body):
 
 def compare(root):
     """The functions that differ, or that only one of the two has, and how many were compared."""
-    printed = {one[1]: one[2] for one in items(read_term(mir_text(root))[1]) if not one[1].startswith(('std::', 'no_program::'))}
+    crates, _ = library_crates(root)
+    printed = {one[1]: one[2] for one in items(read_term(mir_text(root))[1]) if one[1].split('::')[0] in crates}
     different, compared = set(), set()
     for library in sorted(root.glob('target/rlib/*.rlib/toolchain/mir.json')):
         for name, built in json.loads(library.read_text()):

@@ -1,5 +1,5 @@
-"""Wrong programs that the rules must find: a title, words of what must be found, and for each file what to replace by what. Most of them can be
-proved, since what they store is put back before the call ends; that they compile is all that is asked here."""
+"""Wrong programs that the rules must find: a title, words of what must be found, and for each file what to replace by what. A program that puts back
+what it stored can meet every contract; most of these do not trouble to, since that they compile is all that is asked here."""
 
 BEGINNING = 'steps/src/beginning.rt'
 COMMITTING = 'steps/src/committing.rt'

@@ -1,5 +1,5 @@
 """try_edits.py ROOT: applies each edit of edits.py to a copy of the sources below ROOT; the rules must find each, for the reason that it names. And
-puts forms into the MIR that no rule covers; each must be an error."""
+puts forms into the MIR that no rule covers; each must be an error. And puts a store into every function that gets the image, `&` or `&mut`."""
 import multiprocessing
 import pathlib
 import shutil
@@ -9,7 +9,9 @@ import tempfile
 from built import compare
 from check import check, judge
 from edits import EDITS, FORMS
-from mir import mir_text
+from flow import Flows
+from mir import Assign, Program, mir_text
+from rules import SESSION_CALLS, Findings
 
 
 def copy_sources(root, folder):
@@ -65,17 +67,45 @@ def put_form(root, text, old, new):
     return None if any('not understood' in line for line in broken) else f'{new} for {old} was not refused; found: {broken or "nothing"}'
 
 
+def stores_everywhere(root, text):
+    """What happens where a store is put into each function that a call hands the image to: those in which it is not found, and how many there are."""
+    program = Program(text)
+    missed, tried = [], 0
+    for name in SESSION_CALLS:
+        for function, parameters in Flows(program, f'gateway::teplovist_{name}', 1).flows:
+            for parameter in parameters:
+                tried += 1
+                if not finds_store(root, program, name, function, parameter):
+                    missed.append(f'a store of {name} in {function} was not found')
+    return missed, tried
+
+
+def finds_store(root, program, name, function, parameter):
+    changed = program.function(function)
+    statements = changed.statements
+    byte = ['lcons', ['deref', ['tyInt', '8']], 'lnil']
+    steps = ['lcons', ['field', '0'], byte] if changed.locals[parameter][0] == 'struct' else byte
+    changed.statements = [Assign(['assign', ['place', str(parameter), steps], ['rvOpd', ['int', '8', '0']]], False), *statements]
+    findings = Findings(root, program)
+    findings.stores_of(name)
+    changed.statements = statements
+    found = [f'the image is stored to by {function}:', f'expected one store statement in {function},']
+    return any(words in line for words in found for line in findings.broken)
+
+
 def main(root):
     text = mir_text(root)
     with multiprocessing.Pool() as pool:
         results = pool.starmap(attempt, [(root, edit) for edit in EDITS])
         results.append(pool.apply(other_than_built, [root]))
         results += pool.starmap(put_form, [(root, text, old, new) for old, new in FORMS])
-    missed = [result for result in results if result]
+    missed, tried = stores_everywhere(root, text)
+    missed += [result for result in results if result]
     for line in missed:
         print(f'stores: {line}')
     if not missed:
-        print(f'stores: each of {len(EDITS)} wrong programs was found, and each of {len(FORMS)} unknown forms refused')
+        print(f'stores: each of {len(EDITS)} wrong programs was found, and a store put in each of {tried} places; '
+              f'{len(FORMS)} unknown forms were refused')
     return bool(missed)
 
 
