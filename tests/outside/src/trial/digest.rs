@@ -134,13 +134,14 @@ fn choose_piece_at(random: &mut Random, total: u64) -> usize {
     }
 }
 
-/// The rules' state and the subject's, brought forward together.
+/// The rules' state and the subject's, brought forward together. What the subject is lent are allocations of their own,
+/// so that a memory checker sees a step past their ends.
 struct Holder<'a> {
     subject: Option<&'a dyn Subject>,
     tally: &'a mut Tally,
     state: RunningBytes,
     /// What stands behind the waiting bytes may differ here.
-    other: RunningBytes,
+    other: Box<RunningBytes>,
 }
 
 impl<'a> Holder<'a> {
@@ -148,12 +149,12 @@ impl<'a> Holder<'a> {
     fn new(random: &mut Random, subject: Option<&'a dyn Subject>, tally: &'a mut Tally) -> Holder<'a> {
         let mut state = [0; RUNNING_LENGTH];
         put(&mut state, 0, &random.bytes(RUNNING_LENGTH));
-        Holder { subject, tally, state, other: state }
+        Holder { subject, tally, state, other: Box::new(state) }
     }
 
     fn set_total(&mut self, total: u64) {
         put(&mut self.state, TOTAL, &total.to_le_bytes());
-        put(&mut self.other, TOTAL, &total.to_le_bytes());
+        put(&mut self.other[..], TOTAL, &total.to_le_bytes());
     }
 
     fn start(&mut self) -> Result<(), String> {
@@ -164,7 +165,7 @@ impl<'a> Holder<'a> {
         require(self.state == fresh, || "start: not the initial state".into())?;
         let Some(subject) = self.subject else { return Ok(()) };
         subject.digest_start(&mut self.other);
-        require(self.other == fresh, || "start: the subject's is not the initial state".into())
+        require(*self.other == fresh, || "start: the subject's is not the initial state".into())
     }
 
     /// Answers whether the piece was accepted.
@@ -181,8 +182,9 @@ impl<'a> Holder<'a> {
 
         let Some(subject) = self.subject else { return Ok(fits) };
         self.spoil_behind(random);
-        let before = self.other;
-        let answer = subject.digest_feed(&mut self.other, piece);
+        let before = self.other.clone();
+        let lent = piece.to_vec();
+        let answer = subject.digest_feed(&mut self.other, &lent);
         require(answer == expected, || format!("feed to {total:#x} bytes: the subject answered {answer:#x}"))?;
         require(fits || self.other == before, || "feed: the subject refused, and yet its state changed".into())?;
         let same = Running::from_bytes(&self.state) == Running::from_bytes(&self.other);
@@ -203,17 +205,17 @@ impl<'a> Holder<'a> {
 
         let Some(subject) = self.subject else { return Ok(()) };
         self.spoil_behind(random);
-        let mut other = UNTOUCHED_DIGEST;
+        let mut other = Box::new(UNTOUCHED_DIGEST);
         let answer = subject.digest_finish(&self.other, &mut other);
         require(answer == number, || format!("finish at {total:#x} bytes: the subject answered {answer:#x}"))?;
-        require(other == digest, || format!("finish at {total:#x} bytes: the subject's digest differs"))
+        require(*other == digest, || format!("finish at {total:#x} bytes: the subject's digest differs"))
     }
 
     /// Nobody looks at what stands behind the waiting bytes: half of the time it is noise in the subject's state.
     fn spoil_behind(&mut self, random: &mut Random) {
         if random.chance(50) {
-            let waiting = WAITING + (number(&self.other, TOTAL, 8) % BLOCK as u64) as usize;
-            put(&mut self.other, waiting, &random.bytes(TOTAL - waiting));
+            let waiting = WAITING + (number(&self.other[..], TOTAL, 8) % BLOCK as u64) as usize;
+            put(&mut self.other[..], waiting, &random.bytes(TOTAL - waiting));
         }
     }
 }
