@@ -28,6 +28,7 @@ mod subject;
 #[allow(dead_code)]
 mod rules {
     pub mod calls;
+    pub mod compression;
     pub mod descriptor;
     pub mod dpfs;
     pub mod extent;
@@ -35,7 +36,9 @@ mod rules {
     pub mod ivfc;
     pub mod opening;
     pub mod refusal;
+    pub mod running;
     pub mod session;
+    pub mod signing;
     pub mod staging;
     pub mod sha256 {
         pub use crate::counting::sha256;

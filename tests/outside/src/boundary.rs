@@ -2,7 +2,10 @@
 //! as a pointer.
 
 use crate::description::Description;
+use crate::rules::compression::Digest;
+use crate::rules::running::RunningBytes;
 use crate::rules::session::SessionBytes;
+use crate::rules::signing::{BlockBytes, SignerNumbers};
 use crate::subject::Subject;
 
 extern "C" {
@@ -38,6 +41,11 @@ extern "C" {
     ) -> u64;
     fn teplovist_commit(image: *mut u8, image_len: usize, session: *mut u8) -> u64;
     fn teplovist_abandon(session: *mut u8) -> u64;
+    fn teplovist_signing_block(image: *const u8, image_len: usize, signer: *const u64, block: *mut u8) -> u64;
+    fn teplovist_signing_digest(image: *const u8, image_len: usize, signer: *const u64, digest: *mut u8) -> u64;
+    fn teplovist_digest_start(state: *mut u8);
+    fn teplovist_digest_feed(state: *mut u8, piece: *const u8, piece_len: usize) -> u64;
+    fn teplovist_digest_finish(state: *const u8, digest: *mut u8) -> u64;
 }
 
 /// The proved library. Each call lends it slices and arrays of Rust's own for the call alone, of the lengths that it is
@@ -101,5 +109,25 @@ impl Subject for Library {
 
     fn abandon(&self, session: &mut SessionBytes) -> u64 {
         unsafe { teplovist_abandon(session.as_mut_ptr()) }
+    }
+
+    fn signing_block(&self, image: &[u8], signer: &SignerNumbers, block: &mut BlockBytes) -> u64 {
+        unsafe { teplovist_signing_block(image.as_ptr(), image.len(), signer.as_ptr(), block.as_mut_ptr()) }
+    }
+
+    fn signing_digest(&self, image: &[u8], signer: &SignerNumbers, digest: &mut Digest) -> u64 {
+        unsafe { teplovist_signing_digest(image.as_ptr(), image.len(), signer.as_ptr(), digest.as_mut_ptr()) }
+    }
+
+    fn digest_start(&self, state: &mut RunningBytes) {
+        unsafe { teplovist_digest_start(state.as_mut_ptr()) }
+    }
+
+    fn digest_feed(&self, state: &mut RunningBytes, piece: &[u8]) -> u64 {
+        unsafe { teplovist_digest_feed(state.as_mut_ptr(), piece.as_ptr(), piece.len()) }
+    }
+
+    fn digest_finish(&self, state: &RunningBytes, digest: &mut Digest) -> u64 {
+        unsafe { teplovist_digest_finish(state.as_ptr(), digest.as_mut_ptr()) }
     }
 }

@@ -1,11 +1,14 @@
 //! Whatever claims to follow the rules, in the form of the library's boundary: an answer is one number (the refusal's
-//! number in the low eight bits, the value above), a session is 257 bytes.
+//! number in the low eight bits, the value above), a session is 257 bytes, a running digest 104.
 
 use crate::description::{describe, Description};
 use crate::rules::calls;
+use crate::rules::compression::Digest;
 use crate::rules::opening;
 use crate::rules::refusal::answer_code;
+use crate::rules::running::{Running, RunningBytes};
 use crate::rules::session::{Session, SessionBytes};
+use crate::rules::signing::{self, BlockBytes, Signer, SignerNumbers};
 
 pub trait Subject {
     fn open(&self, image: &[u8], description: &mut Description) -> u64;
@@ -17,6 +20,11 @@ pub trait Subject {
     fn write(&self, image: &mut [u8], session: &mut SessionBytes, partition: u64, place: u64, data: &[u8]) -> u64;
     fn commit(&self, image: &mut [u8], session: &mut SessionBytes) -> u64;
     fn abandon(&self, session: &mut SessionBytes) -> u64;
+    fn signing_block(&self, image: &[u8], signer: &SignerNumbers, block: &mut BlockBytes) -> u64;
+    fn signing_digest(&self, image: &[u8], signer: &SignerNumbers, digest: &mut Digest) -> u64;
+    fn digest_start(&self, state: &mut RunningBytes);
+    fn digest_feed(&self, state: &mut RunningBytes, piece: &[u8]) -> u64;
+    fn digest_finish(&self, state: &RunningBytes, digest: &mut Digest) -> u64;
 }
 
 /// This project's own implementation.
@@ -70,6 +78,41 @@ impl Subject for Rules {
         let mut value = Session::from_bytes(session);
         answer_code(calls::abandon(&mut value).map(|()| {
             *session = value.to_bytes();
+            0
+        }))
+    }
+
+    /// The answer's value is the block's length; what is left of the array is zero.
+    fn signing_block(&self, image: &[u8], signer: &SignerNumbers, block: &mut BlockBytes) -> u64 {
+        answer_code(signing::signing_block(image, Signer::from_numbers(*signer)).map(|bytes| {
+            block.fill(0);
+            block[..bytes.len()].copy_from_slice(&bytes);
+            bytes.len() as u64
+        }))
+    }
+
+    fn signing_digest(&self, image: &[u8], signer: &SignerNumbers, digest: &mut Digest) -> u64 {
+        answer_code(signing::signing_digest(image, Signer::from_numbers(*signer)).map(|value| {
+            *digest = value;
+            0
+        }))
+    }
+
+    fn digest_start(&self, state: &mut RunningBytes) {
+        *state = Running::start().to_bytes();
+    }
+
+    fn digest_feed(&self, state: &mut RunningBytes, piece: &[u8]) -> u64 {
+        let mut value = Running::from_bytes(state);
+        answer_code(value.feed(piece).map(|()| {
+            *state = value.to_bytes();
+            0
+        }))
+    }
+
+    fn digest_finish(&self, state: &RunningBytes, digest: &mut Digest) -> u64 {
+        answer_code(Running::from_bytes(state).finish().map(|value| {
+            *digest = value;
             0
         }))
     }

@@ -2,11 +2,16 @@
 //! a rule are found out.
 
 use outside::description::Description;
+use outside::rules::compression::{compress, Digest};
 use outside::rules::dpfs::View;
+use outside::rules::header::LONGEST_IMAGE;
 use outside::rules::opening::open;
+use outside::rules::running::{Running, RunningBytes, LONGEST_MESSAGE, TOTAL, WAITING};
 use outside::rules::session::SessionBytes;
+use outside::rules::sha256::sha256;
+use outside::rules::signing::{BlockBytes, SignerNumbers, LONGEST_BLOCK};
 use outside::subject::{Rules, Subject};
-use outside::trial::tally::Tally;
+use outside::trial::tally::{Tally, NUMBERS};
 use outside::trial::{run_case, run_fixed_cases};
 
 #[test]
@@ -27,6 +32,14 @@ fn the_model_agrees_and_every_answer_occurs() {
         ("write", vec![8, 9, 10, 11, 12, 13, 14]),
         ("commit", vec![13, 14]),
     ];
+    let signing = [("signing block", vec![0, 1, 2, 15]), ("signing digest", vec![0, 1, 2, 15])];
+    let digests = [("digest start", vec![0]), ("digest feed", vec![0, 22]), ("digest finish", vec![0, 22])];
+    for (call, numbers) in signing.into_iter().chain(digests) {
+        for number in 0..NUMBERS {
+            let occurs = tally.count(call, number) > 0;
+            assert_eq!(occurs, numbers.contains(&number), "{call} and the answer {number}");
+        }
+    }
     for (call, refusals) in expected {
         for number in opening.clone().chain(refusals) {
             assert!(tally.count(call, number) > 0, "{call} never answered {number}");
@@ -54,9 +67,27 @@ enum Fault {
     CommitKeepsSession,
     AbandonKeepsRemains,
     CarriesNoBlock,
+    SignsAnyKind,
+    SignsOpenedImagesOnly,
+    SignsLongImages,
+    KeepsSaveIdHigh,
+    KeepsQuotaIds,
+    ExchangesFileIds,
+    KeepsTailOfBlock,
+    FillsBlockOnRefusal,
+    DigestsWholeArray,
+    StartsWithLeftovers,
+    LimitOneLower,
+    LimitOneHigher,
+    TotalWraps,
+    AcceptsEmptyPieces,
+    FinishesPastLimit,
+    RefusedFeedCounts,
+    LooksBehindWaiting,
+    ForgetsWaiting,
 }
 
-const FAULTS: [Fault; 14] = [
+const FAULTS: [Fault; 32] = [
     Fault::RefusesEverything,
     Fault::ReadsZeros,
     Fault::FillsBufferOnRefusal,
@@ -71,6 +102,24 @@ const FAULTS: [Fault; 14] = [
     Fault::CommitKeepsSession,
     Fault::AbandonKeepsRemains,
     Fault::CarriesNoBlock,
+    Fault::SignsAnyKind,
+    Fault::SignsOpenedImagesOnly,
+    Fault::SignsLongImages,
+    Fault::KeepsSaveIdHigh,
+    Fault::KeepsQuotaIds,
+    Fault::ExchangesFileIds,
+    Fault::KeepsTailOfBlock,
+    Fault::FillsBlockOnRefusal,
+    Fault::DigestsWholeArray,
+    Fault::StartsWithLeftovers,
+    Fault::LimitOneLower,
+    Fault::LimitOneHigher,
+    Fault::TotalWraps,
+    Fault::AcceptsEmptyPieces,
+    Fault::FinishesPastLimit,
+    Fault::RefusedFeedCounts,
+    Fault::LooksBehindWaiting,
+    Fault::ForgetsWaiting,
 ];
 
 /// The model with one fault.
@@ -164,6 +213,108 @@ impl Subject for Faulty {
         }
         Rules.abandon(session)
     }
+
+    fn signing_block(&self, image: &[u8], signer: &SignerNumbers, block: &mut BlockBytes) -> u64 {
+        let untouched = *block;
+        let [kind, id, name, directory] = *signer;
+        let signer = match self.0 {
+            Fault::ExchangesFileIds => [kind, id, directory, name],
+            _ => *signer,
+        };
+        let answer = Rules.signing_block(image, &signer, block);
+        let length = (answer >> 8) as usize;
+        match self.0 {
+            Fault::SignsAnyKind if answer == 15 => return Rules.signing_block(image, &[kind % 6 + 3, 0, 0, 0], block),
+            Fault::SignsOpenedImagesOnly if answer & 0xFF == 0 => {
+                if let Err(refusal) = open(image) {
+                    *block = untouched;
+                    return refusal.number();
+                }
+            }
+            Fault::SignsLongImages if image.len() > LONGEST_IMAGE => {
+                return Rules.signing_block(&image[..LONGEST_IMAGE], &signer, block)
+            }
+            Fault::KeepsSaveIdHigh if kind % 6 == 2 && length > 0 => block[8..16].copy_from_slice(&id.to_le_bytes()),
+            Fault::KeepsQuotaIds if kind % 6 == 3 && length > 0 => {
+                block[0x14..0x18].copy_from_slice(&name.to_le_bytes()[..4]);
+            }
+            Fault::KeepsTailOfBlock if length > 0 => block[length..].copy_from_slice(&untouched[length..]),
+            Fault::FillsBlockOnRefusal if answer == 15 => block.fill(0),
+            _ => {}
+        }
+        answer
+    }
+
+    fn signing_digest(&self, image: &[u8], signer: &SignerNumbers, digest: &mut Digest) -> u64 {
+        let answer = Rules.signing_digest(image, signer, digest);
+        if self.0 == Fault::DigestsWholeArray && answer == 0 {
+            let mut block = [0; LONGEST_BLOCK];
+            Rules.signing_block(image, signer, &mut block);
+            *digest = sha256(&block);
+        }
+        answer
+    }
+
+    fn digest_start(&self, state: &mut RunningBytes) {
+        let before = *state;
+        Rules.digest_start(state);
+        if self.0 == Fault::StartsWithLeftovers {
+            state[WAITING..TOTAL].copy_from_slice(&before[WAITING..TOTAL]);
+        }
+    }
+
+    fn digest_feed(&self, state: &mut RunningBytes, piece: &[u8]) -> u64 {
+        let mut value = Running::from_bytes(state);
+        let total = value.total.wrapping_add(piece.len() as u64);
+        let refused = match self.0 {
+            Fault::LimitOneLower => total == LONGEST_MESSAGE,
+            Fault::RefusedFeedCounts if value.feed(piece).is_err() => {
+                state[TOTAL..].copy_from_slice(&total.to_le_bytes());
+                true
+            }
+            _ => false,
+        };
+        let accepted = match self.0 {
+            Fault::LimitOneHigher => total == LONGEST_MESSAGE + 1,
+            Fault::TotalWraps => total < value.total,
+            Fault::AcceptsEmptyPieces => piece.is_empty(),
+            _ => false,
+        };
+        match (refused, accepted) {
+            (true, _) => 22,
+            (_, true) => 0,
+            _ => Rules.digest_feed(state, piece),
+        }
+    }
+
+    fn digest_finish(&self, state: &RunningBytes, digest: &mut Digest) -> u64 {
+        let mut value = Running::from_bytes(state);
+        match self.0 {
+            Fault::FinishesPastLimit => value.total &= LONGEST_MESSAGE,
+            Fault::LooksBehindWaiting if value.total <= LONGEST_MESSAGE && value.waiting.len() < 56 => {
+                *digest = padded_with_leftovers(&value, state);
+                return 0;
+            }
+            Fault::ForgetsWaiting => value.waiting.clear(),
+            _ => return Rules.digest_finish(state, digest),
+        }
+        match value.finish() {
+            Ok(found) => {
+                *digest = found;
+                0
+            }
+            Err(refusal) => refusal.number(),
+        }
+    }
+}
+
+/// A digest whose padding leaves what stands behind the waiting bytes, where zeros belong.
+fn padded_with_leftovers(value: &Running, state: &RunningBytes) -> Digest {
+    let mut last = state[WAITING..TOTAL].to_vec();
+    last[value.waiting.len()] = 0x80;
+    last[56..].copy_from_slice(&(8 * value.total).to_be_bytes());
+    let words = compress(value.hash, &last);
+    std::array::from_fn(|place| words[place / 4].to_be_bytes()[place % 4])
 }
 
 /// Copies every live level 3 block over its other copy: a begin that writes everything, or a write that loses the
@@ -184,7 +335,9 @@ fn copy_live_over_other(image: &mut [u8]) {
 #[test]
 fn every_fault_is_found() {
     for fault in FAULTS {
-        let found = (1..=300).any(|seed| run_case(seed, Some(&Faulty(fault)), &mut Tally::default()).is_err());
+        let subject = Faulty(fault);
+        let found = (1..=300).any(|seed| run_case(seed, Some(&subject), &mut Tally::default()).is_err());
+        let found = found || run_fixed_cases(Some(&subject), &mut Tally::default()).is_err();
         assert!(found, "{fault:?} was not noticed");
     }
 }

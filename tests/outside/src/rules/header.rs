@@ -83,19 +83,25 @@ impl Header {
     }
 }
 
-/// Reads and judges the header: refusals 1 to 4.
-pub fn read_header(image: &[u8]) -> Result<Header, Refusal> {
+/// Judges the image's length and reads its kind: refusals 1 and 2.
+pub fn read_kind(image: &[u8]) -> Result<Kind, Refusal> {
     if image.len() < SHORTEST_IMAGE || image.len() > LONGEST_IMAGE {
         return Err(Refusal::Length);
     }
-    let bytes = &image[HEADER..HEADER + HEADER_LENGTH];
-    let kind = if &bytes[..8] == DISA_OPENING {
-        Kind::Disa
-    } else if &bytes[..8] == DIFF_OPENING {
-        Kind::Diff
+    let opening = &image[HEADER..HEADER + 8];
+    if opening == DISA_OPENING {
+        Ok(Kind::Disa)
+    } else if opening == DIFF_OPENING {
+        Ok(Kind::Diff)
     } else {
-        return Err(Refusal::Kind);
-    };
+        Err(Refusal::Kind)
+    }
+}
+
+/// Reads and judges the header: refusals 1 to 4.
+pub fn read_header(image: &[u8]) -> Result<Header, Refusal> {
+    let kind = read_kind(image)?;
+    let bytes = &image[HEADER..HEADER + HEADER_LENGTH];
     let count = match kind {
         Kind::Disa => number(bytes, 0x08, 4),
         Kind::Diff => 1,

@@ -1,6 +1,7 @@
 //! The container's rules, in the order of the paper.
 
 pub mod calls;
+pub mod compression;
 pub mod descriptor;
 pub mod dpfs;
 pub mod extent;
@@ -9,6 +10,8 @@ pub mod ivfc;
 pub mod opening;
 pub mod protected;
 pub mod refusal;
+pub mod running;
 pub mod session;
 pub mod sha256;
+pub mod signing;
 pub mod staging;

@@ -1,4 +1,4 @@
-//! The fourteen ways to say no.
+//! The ways to say no.
 
 #[derive(Clone, Copy, Debug, PartialEq, Eq)]
 pub enum Refusal {
@@ -30,6 +30,10 @@ pub enum Refusal {
     WrongSession,
     /// 14: the header or the inactive table is not as the session left it.
     Outdated,
+    /// 15: the signer's type does not fit the container's kind.
+    WrongSigner,
+    /// 22: a running digest's message is or would become too long.
+    MessageTooLong,
 }
 
 impl Refusal {
@@ -49,6 +53,8 @@ impl Refusal {
             Refusal::ExternalWrite => 12,
             Refusal::WrongSession => 13,
             Refusal::Outdated => 14,
+            Refusal::WrongSigner => 15,
+            Refusal::MessageTooLong => 22,
         }
     }
 

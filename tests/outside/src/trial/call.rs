@@ -1,9 +1,11 @@
 //! One call with its arguments, how it is chosen, and what it gives.
 
+use super::signing::choose_signer;
 use crate::description::{Description, DESCRIPTION_LENGTH};
 use crate::generate::random::Random;
 use crate::rules::opening::Opened;
 use crate::rules::session::SessionBytes;
+use crate::rules::signing::{SignerNumbers, LONGEST_BLOCK};
 use crate::subject::Subject;
 
 #[derive(Clone, Debug)]
@@ -17,6 +19,8 @@ pub enum Call {
     Write { partition: u64, place: u64, data: Vec<u8> },
     Commit,
     Abandon,
+    SigningBlock { signer: SignerNumbers },
+    SigningDigest { signer: SignerNumbers },
 }
 
 impl std::fmt::Display for Call {
@@ -31,7 +35,7 @@ impl std::fmt::Display for Call {
 }
 
 /// How many kinds of calls there are.
-pub const CALL_KINDS: usize = 9;
+pub const CALL_KINDS: usize = 11;
 
 /// Everything that a call hands back besides image and session.
 #[derive(Clone, Debug, PartialEq, Eq)]
@@ -55,10 +59,36 @@ pub fn untouched_buffer(length: usize) -> Vec<u8> {
 pub const UNTOUCHED_DESCRIPTION: Description = [0xD5D5_D5D5_D5D5_D5D5; DESCRIPTION_LENGTH];
 
 impl Call {
+    pub fn name(&self) -> &'static str {
+        match self {
+            Call::Open => "open",
+            Call::ReadCommitted { .. } => "read committed",
+            Call::ReadStaged { .. } => "read staged",
+            Call::Verified { .. } => "verified",
+            Call::CountVerified { .. } => "count verified",
+            Call::Begin => "begin",
+            Call::Write { .. } => "write",
+            Call::Commit => "commit",
+            Call::Abandon => "abandon",
+            Call::SigningBlock { .. } => "signing block",
+            Call::SigningDigest { .. } => "signing digest",
+        }
+    }
+
     pub fn buffer_length(&self) -> usize {
         match self {
             Call::ReadCommitted { length, .. } | Call::ReadStaged { length, .. } => *length,
+            Call::SigningBlock { .. } => LONGEST_BLOCK,
+            Call::SigningDigest { .. } => 32,
             _ => 0,
+        }
+    }
+
+    /// For whom a block or its digest is asked.
+    pub fn signer(&self) -> Option<SignerNumbers> {
+        match self {
+            Call::SigningBlock { signer } | Call::SigningDigest { signer } => Some(*signer),
+            _ => None,
         }
     }
 
@@ -79,6 +109,8 @@ impl Call {
             Call::Write { partition, place, data } => subject.write(image, session, *partition, *place, data),
             Call::Commit => subject.commit(image, session),
             Call::Abandon => subject.abandon(session),
+            Call::SigningBlock { signer } => subject.signing_block(image, signer, as_array(&mut buffer)),
+            Call::SigningDigest { signer } => subject.signing_digest(image, signer, as_array(&mut buffer)),
         };
         Outcome { answer, buffer, description }
     }
@@ -86,7 +118,7 @@ impl Call {
     /// Any call, with arguments that fit these partitions most of the time. In a begun session writes are frequent.
     pub fn choose(random: &mut Random, opened: Option<&Opened>, begun: bool) -> Call {
         let shares: [u64; CALL_KINDS] =
-            if begun { [2, 10, 18, 6, 2, 3, 44, 11, 4] } else { [3, 20, 4, 14, 5, 40, 6, 4, 4] };
+            if begun { [2, 10, 18, 6, 2, 3, 44, 11, 4, 4, 3] } else { [3, 20, 4, 14, 5, 40, 6, 4, 4, 6, 4] };
         let mut share = random.below(shares.iter().sum());
         let mut number = 0;
         while share >= shares[number] {
@@ -96,7 +128,7 @@ impl Call {
         Call::of_kind(random, opened, number)
     }
 
-    /// A call of one of the nine kinds, in the order of the declarations above.
+    /// A call of one of these kinds, in the order of the declarations above.
     pub fn of_kind(random: &mut Random, opened: Option<&Opened>, number: usize) -> Call {
         let partition = choose_partition(random, opened);
         let (data_size, block_size) = data_shape(opened, partition);
@@ -118,9 +150,15 @@ impl Call {
                 Call::Write { partition, place, data: random.bytes(length) }
             }
             7 => Call::Commit,
-            _ => Call::Abandon,
+            8 => Call::Abandon,
+            9 => Call::SigningBlock { signer: choose_signer(random) },
+            _ => Call::SigningDigest { signer: choose_signer(random) },
         }
     }
+}
+
+fn as_array<const LENGTH: usize>(buffer: &mut [u8]) -> &mut [u8; LENGTH] {
+    buffer.try_into().expect("the buffer has the call's length")
 }
 
 fn choose_partition(random: &mut Random, opened: Option<&Opened>) -> u64 {

@@ -4,6 +4,7 @@
 use super::call::{untouched_buffer, Call, Outcome, UNTOUCHED_DESCRIPTION};
 use super::properties::{check_begin, check_commit, check_write, require};
 use super::rows::touches_row;
+use super::signing::check_signing;
 use super::tally::Tally;
 use crate::description::{describe, name_at};
 use crate::generate::random::Random;
@@ -112,9 +113,10 @@ impl<'a> List<'a> {
         let before = self.image.clone();
         let session_before = *session;
         let outcome = call.perform(&Rules, &mut self.image, session);
-        self.tally.note(call, outcome.answer);
+        self.tally.note(call.name(), outcome.answer);
         self.check_subject(call, &before, &session_before, session, &outcome)?;
         self.check_prediction(call, &before, &session_before, &outcome)?;
+        check_signing(&before, call, &outcome)?;
         if outcome.accepted() {
             self.tally.rows += u64::from(touches_row(call, &self.image, &self.opened));
             self.check_accepted(call, &before, &session_before, session, &outcome)?;
@@ -181,6 +183,8 @@ impl<'a> List<'a> {
             Call::Begin if session[0] == 0 => Some(Prediction::Answer(0)),
             Call::Abandon if session[0] != 0 => Some(Prediction::Answer(0)),
             Call::Begin | Call::Abandon => refused(Refusal::WrongSession),
+            // The model knows no header.
+            Call::SigningBlock { .. } | Call::SigningDigest { .. } => None,
             Call::ReadCommitted { partition, .. }
             | Call::ReadStaged { partition, .. }
             | Call::Verified { partition, .. }

@@ -1,10 +1,13 @@
-//! Random cases: lists of calls on valid images, damaged images, and images with random changes.
+//! Random cases: lists of calls on valid images, damaged images, images with random changes, blocks for signing, and
+//! running digests.
 
 pub mod call;
+mod digest;
 mod full_bits;
 pub mod list;
 pub mod properties;
 mod rows;
+mod signing;
 pub mod tally;
 
 use crate::generate::damage::{any_damage, damaged_image, mutate, patient, Damage, DAMAGES};
@@ -18,42 +21,46 @@ use crate::rules::opening::{open, Opened};
 use crate::rules::session::{Session, SessionBytes, SESSION_LENGTH};
 use crate::subject::{Rules, Subject};
 use call::{Call, CALL_KINDS, UNTOUCHED_DESCRIPTION};
+use digest::{run_digest_case, run_long_message};
 use list::{compare_subject, List};
 use properties::require;
+use signing::{check_signing, run_length_cases, run_signing_case};
 use tally::Tally;
 
 /// Runs the case of this seed; the complaint says what went wrong.
 pub fn run_case(seed: u64, subject: Option<&dyn Subject>, tally: &mut Tally) -> Result<(), String> {
     let random = &mut Random::new(seed);
     match random.below(100) {
-        0..=69 => {
+        0..=59 => {
             let sample = valid_image(random, &Wanted::default());
             let calls = random.between(1, 30);
             List::new(sample, subject, tally).run(random, calls)
         }
-        70..=84 => {
+        60..=73 => {
             let damage = any_damage(random);
             let image = damaged_image(random, &damage).image;
             refused_image(random, image, Some(&damage), subject, tally)
                 .map_err(|complaint| format!("{}: {complaint}", damage.name))
         }
-        85..=96 => {
+        74..=83 => {
             let mut patient = patient(random, &Wanted::default());
             mutate(random, &mut patient);
             any_image(random, patient.image, subject, tally)
         }
-        _ => {
+        84..=86 => {
             let length = random.pick(&[0, 1, 0x100, 0x1FF, 0x200, 0x201, 0x400, 3000]);
             let image = random.bytes(length);
             any_image(random, image, subject, tally)
         }
+        87..=92 => run_signing_case(random, subject, tally),
+        _ => run_digest_case(random, subject, tally),
     }
 }
 
 /// How often every run tries each damage, so that each of its values comes up.
 const TRIES_OF_EACH_DAMAGE: u64 = 40;
 
-/// Cases that every run must have tried: each damage, levels of bits that are full, and the limits of an image's length.
+/// Cases that every run must have tried: each damage, levels of bits that are full, the limits of an image's length, a long message.
 pub fn run_fixed_cases(subject: Option<&dyn Subject>, tally: &mut Tally) -> Result<(), String> {
     let random = &mut Random::new(0);
     for damage in DAMAGES {
@@ -69,7 +76,8 @@ pub fn run_fixed_cases(subject: Option<&dyn Subject>, tally: &mut Tally) -> Resu
         image.resize(length, 0x55);
         check_open(&image, number, subject).map_err(|complaint| format!("length {length:#x}: {complaint}"))?;
     }
-    Ok(())
+    run_length_cases(subject, tally)?;
+    run_long_message(subject, tally).map_err(|complaint| format!("a million letters: {complaint}"))
 }
 
 fn check_open(image: &[u8], number: u64, subject: Option<&dyn Subject>) -> Result<(), String> {
@@ -108,7 +116,8 @@ fn versions(image: &[u8], opened: &Opened) -> Vec<Version> {
         .collect()
 }
 
-/// Every call but abandon answers opening's number, whatever its arguments and session, and changes nothing.
+/// Every call but abandon and the ones for signing answers opening's number, whatever its arguments and session, and
+/// changes nothing.
 fn refused_image(
     random: &mut Random,
     image: Vec<u8>,
@@ -126,17 +135,22 @@ fn refused_image(
         let mut after = image.clone();
         let mut session = session_before;
         let outcome = call.perform(&Rules, &mut after, &mut session);
-        tally.note(&call, outcome.answer);
+        tally.note(call.name(), outcome.answer);
         if let Some(subject) = subject {
             compare_subject(subject, &call, &image, &session_before, &after, &session, &outcome)?;
         }
-        if let Call::Abandon = call {
-            let expected = if session_before[0] == 0 { 13 } else { 0 };
-            require(outcome.answer == expected, || format!("abandon answered {:#x}", outcome.answer))?;
-        } else {
-            require(outcome.answer == number, || format!("{call} answered {:#x}, not {number}", outcome.answer))?;
-            require(session == session_before, || format!("{call} changed the session"))?;
+        let answered = |number: u64| {
+            require(outcome.answer == number, || format!("{call} answered {:#x}, not {number}", outcome.answer))
+        };
+        match call {
+            Call::Abandon => answered(if session_before[0] == 0 { 13 } else { 0 })?,
+            Call::SigningBlock { .. } | Call::SigningDigest { .. } => {
+                check_signing(&image, &call, &outcome).map_err(|complaint| format!("{call}: {complaint}"))?;
+            }
+            _ => answered(number)?,
         }
+        let may_change = matches!(call, Call::Abandon);
+        require(may_change || session == session_before, || format!("{call} changed the session"))?;
         require(after == image, || format!("{call} changed the image"))?;
     }
     Ok(())

@@ -1,14 +1,29 @@
 //! How often each call gave each answer, so that a run shows what it has tried.
 
-use super::call::{Call, CALL_KINDS};
+pub const CALLS: [&str; 14] = [
+    "open",
+    "read committed",
+    "read staged",
+    "verified",
+    "count verified",
+    "begin",
+    "write",
+    "commit",
+    "abandon",
+    "signing block",
+    "signing digest",
+    "digest start",
+    "digest feed",
+    "digest finish",
+];
 
-pub const CALLS: [&str; CALL_KINDS] =
-    ["open", "read committed", "read staged", "verified", "count verified", "begin", "write", "commit", "abandon"];
+/// One more than the highest number of a refusal.
+pub const NUMBERS: usize = 23;
 
 #[derive(Clone, Debug, Default)]
 pub struct Tally {
     /// By call and refusal number; 0 is accepted.
-    pub answers: [[u64; 15]; CALL_KINDS],
+    pub answers: [[u64; NUMBERS]; CALLS.len()],
     pub power_failures: u64,
     /// Accepted writes in which a level 3 block had moved already, so that it must be left alone.
     pub writes_upon_writes: u64,
@@ -17,37 +32,35 @@ pub struct Tally {
 }
 
 impl Tally {
-    pub fn note(&mut self, call: &Call, answer: u64) {
-        let row = match call {
-            Call::Open => 0,
-            Call::ReadCommitted { .. } => 1,
-            Call::ReadStaged { .. } => 2,
-            Call::Verified { .. } => 3,
-            Call::CountVerified { .. } => 4,
-            Call::Begin => 5,
-            Call::Write { .. } => 6,
-            Call::Commit => 7,
-            Call::Abandon => 8,
-        };
-        self.answers[row][(answer & 0xFF) as usize] += 1;
+    pub fn note(&mut self, call: &str, answer: u64) {
+        self.answers[row(call)][(answer & 0xFF) as usize] += 1;
     }
 
     pub fn count(&self, call: &str, number: usize) -> u64 {
-        let row = CALLS.iter().position(|name| *name == call).expect("a call's name");
-        self.answers[row][number]
+        self.answers[row(call)][number]
     }
+}
+
+fn row(call: &str) -> usize {
+    CALLS.iter().position(|name| *name == call).expect("a call's name")
+}
+
+/// The numbers that calls have answered so far, in the order of the table.
+fn columns(answers: &[[u64; NUMBERS]]) -> Vec<usize> {
+    (0..NUMBERS).filter(|number| answers.iter().any(|row| row[*number] > 0)).collect()
 }
 
 impl std::fmt::Display for Tally {
     fn fmt(&self, out: &mut std::fmt::Formatter) -> std::fmt::Result {
         write!(out, "{:15}", "answers")?;
-        for number in 0..15 {
+        let columns = columns(&self.answers);
+        for number in &columns {
             write!(out, "{number:>7}")?;
         }
         for (name, row) in CALLS.iter().zip(&self.answers) {
             write!(out, "\n{name:15}")?;
-            for count in row {
-                write!(out, "{count:>7}")?;
+            for number in &columns {
+                write!(out, "{:>7}", row[*number])?;
             }
         }
         write!(
