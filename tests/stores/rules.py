@@ -19,6 +19,8 @@ HEADER_PATH = ['steps::committing::switch_tables', 'steps::committing::store_hea
 # The parameters of the public calls that are lent `&mut`, and what they are. Each function of container and each call of the C boundary is listed
 # where it has one.
 LENT = {
+    'container::blocks::signing_block': {3: 'block'},
+    'container::blocks::signing_digest': {3: 'digest'},
     'container::reading::read_committed': {4: 'buffer'},
     'container::reading::read_staged': {5: 'buffer'},
     'container::sessions::begin': {1: 'image'},
@@ -31,6 +33,11 @@ LENT = {
     'gateway::teplovist_write': {1: 'image'},
     'gateway::teplovist_commit': {1: 'image', 2: 'session'},
     'gateway::teplovist_abandon': {1: 'session'},
+    'gateway::teplovist_signing_block': {3: 'block'},
+    'gateway::teplovist_signing_digest': {3: 'digest'},
+    'gateway::teplovist_digest_start': {1: 'state'},
+    'gateway::teplovist_digest_feed': {1: 'state'},
+    'gateway::teplovist_digest_finish': {2: 'digest'},
 }
 
 # Who makes a value of a type by naming its fields.
@@ -124,7 +131,7 @@ class Findings:
             self.rule(lent == known, f'{function.name}: a public call that is lent other parameters than those known: {sorted(lent)}')
         for name in LENT:
             self.rule(name in self.program.functions, f'{name}: there is no such call')
-        declared = set(re.findall(r'^uint64_t (teplovist_\w+)\(', (self.root / 'include/teplovist.h').read_text(), re.M))
+        declared = set(re.findall(r'^(?:uint64_t|void) (teplovist_\w+)\(', (self.root / 'include/teplovist.h').read_text(), re.M))
         called = {one.name.split('::')[1] for one in self.public() if one.crate() == 'gateway'}
         self.rule(declared == called, f'include/teplovist.h declares other calls than gateway has: {sorted(declared ^ called)}')
 

@@ -7,8 +7,9 @@ use crate::generate::shape::Wanted;
 use crate::generate::valid_image;
 use crate::rules::opening::open;
 use crate::rules::session::{Session, SessionBytes, SESSION_LENGTH};
+use crate::rules::signing::SignerNumbers;
 use crate::subject::Rules;
-use crate::trial::call::Call;
+use crate::trial::call::{Call, CALL_KINDS};
 
 /// One call and all that it gets.
 #[derive(Clone, Debug)]
@@ -70,9 +71,8 @@ fn choose_kind(random: &mut Random, begun: bool) -> usize {
     const BEGIN: usize = 5;
     const WRITE: usize = 6;
     const COMMIT: usize = 7;
-    const KINDS: usize = 9;
     match random.below(10) {
-        0 => random.below(KINDS as u64) as usize,
+        0 => random.below(CALL_KINDS as u64) as usize,
         1..=2 if begun => COMMIT,
         _ if begun => WRITE,
         _ => BEGIN,
@@ -105,6 +105,8 @@ pub fn to_bytes(prepared: &[Prepared]) -> Vec<u8> {
             Call::Write { partition, place, data } => (6, [*partition, *place], data),
             Call::Commit => (7, [0, 0], &[]),
             Call::Abandon => (8, [0, 0], &[]),
+            Call::SigningBlock { signer } => (9, [0, 0], &signer_bytes(signer)),
+            Call::SigningDigest { signer } => (10, [0, 0], &signer_bytes(signer)),
         };
         for number in [kind, numbers[0], numbers[1]] {
             bytes.extend_from_slice(&number.to_le_bytes());
@@ -138,11 +140,22 @@ pub fn from_bytes(mut bytes: &[u8]) -> Vec<Prepared> {
             5 => Call::Begin,
             6 => Call::Write { partition, place, data: data.to_vec() },
             7 => Call::Commit,
-            _ => Call::Abandon,
+            8 => Call::Abandon,
+            9 => Call::SigningBlock { signer: signer_of(data) },
+            _ => Call::SigningDigest { signer: signer_of(data) },
         };
         prepared.push(Prepared { image, session, call });
     }
     prepared
+}
+
+/// A signer's numbers, as the data of its call.
+fn signer_bytes(signer: &SignerNumbers) -> Vec<u8> {
+    signer.iter().flat_map(|number| number.to_le_bytes()).collect()
+}
+
+fn signer_of(mut bytes: &[u8]) -> SignerNumbers {
+    [0; 4].map(|_: u64| take_number(&mut bytes))
 }
 
 fn take<'a>(bytes: &mut &'a [u8], length: usize) -> &'a [u8] {
