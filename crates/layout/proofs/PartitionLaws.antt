@@ -140,7 +140,7 @@ partition-guarantees size d p form place =
     record {
       ivfcSized = eqb-true _ _ (difi .1 .0);
       dpfsSized = eqb-true _ _ (difi .1 .1 .0);
-      masterSized = eqb-true _ _ (difi .1 .1 .1 .0);
+      masterSized = difi .1 .1 .1 .0;
       difiInside = l .0 .ends;
       ivfcInside = l .1 .0 .ends;
       dpfsInside = l .1 .1 .0 .ends;

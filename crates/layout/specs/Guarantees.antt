@@ -10,7 +10,7 @@ use Rattle.number.specs.declared.Level.{Level}
 use Rattle.number.specs.Ranges.{Apart, levelRange, twice, part}
 use Rattle.number.specs.Blocks.{blocks}
 use Rattle.sha256.specs.Sha256.{sha256}
-use Rattle.layout.specs.Limits.{shortestImage, longestImage, tableLimit, difiSize, ivfcSize, dpfsSize, masterSize, leastLog, leastBitsLog, mostLog, wordSize, entrySize}
+use Rattle.layout.specs.Limits.{shortestImage, longestImage, tableLimit, difiSize, ivfcSize, dpfsSize, masterAllowed, leastLog, leastBitsLog, mostLog, wordSize, entrySize}
 use Rattle.layout.specs.Magic.{opensWith}
 use Rattle.layout.specs.Headers.{front, headerBytes, hashRange, headerMagic, headerFields}
 use Rattle.layout.specs.Tables.{active}
@@ -79,7 +79,7 @@ pub record PartitionGuarantees (size length : ℕ) (p : Partition) : Type 0 wher
   -- the pieces: their sizes, DIFI first, in the descriptor and pairwise apart
   pub ivfcSized : p .difi .ivfc .size ≡ ivfcSize
   pub dpfsSized : p .difi .dpfs .size ≡ dpfsSize
-  pub masterSized : p .difi .master .size ≡ masterSize
+  pub masterSized : masterAllowed (p .difi .master .size) ≡ true
   pub difiInside : difiSize ≤ length
   pub ivfcInside : p .difi .ivfc .offset + p .difi .ivfc .size ≤ length
   pub dpfsInside : p .difi .dpfs .offset + p .difi .dpfs .size ≤ length

@@ -33,7 +33,7 @@ const IVFC_SIZE: u64 = 0x78;
 
 const DPFS_SIZE: u64 = 0x50;
 
-const MASTER_SIZE: u64 = 0x20;
+const MOST_ENTRIES: u64 = 64;
 
 const LEAST_LOG: u64 = 5;
 
@@ -136,10 +136,11 @@ fn level_allowed(unit: u64, least: u64, l: Level) -> bool
     size_allowed(unit, l.size) & (least <= l.log) & (l.log <= MOST_LOG)
 }
 
+// A master hash has 1 to 64 entries.
 fn master_allowed(size: u64) -> bool
     ensures { λ r. ⌜ r ≡ masterAllowed size ⌝ }
 {
-    size == MASTER_SIZE
+    (ENTRY_SIZE <= size) & (size <= MOST_ENTRIES * ENTRY_SIZE) & (size % ENTRY_SIZE == 0)
 }
 
 fn difi_allowed(d: &[u8], difi: Difi) -> bool

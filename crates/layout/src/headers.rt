@@ -24,7 +24,7 @@ pub(crate) const DISA_FLAG: usize = 0x68;
 pub(crate) const DIFF_FLAG: usize = 0x30;
 
 // The most bytes that a table may have.
-const TABLE_LIMIT: u64 = 0x1000;
+const TABLE_LIMIT: u64 = 0x2000;
 
 // An offset and a size, one after the other.
 pub(crate) fn range_at(s: &[u8], at: usize) -> Range
