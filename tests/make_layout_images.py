@@ -128,6 +128,10 @@ MANY_WORDS_PARTITION = 8 + 8 * 33 + 2 * 129
 # Level 4 has two blocks, so that level 3 needs two entries.
 TWO_BLOCKS = {"ivfc/4.log": 5, "ivfc/3.size": 64, "ivfc/3.log": 6, "ivfc/4.offset": 128, "dpfs/3.size": 161}
 TWO_BLOCKS_PARTITION = 16 + 2 * 161
+# A master hash of two entries, at the end of a table of its own length.
+TWO_ENTRIES = {"master.size": 0x40, "ivfc/master.size": 0x40}
+TWO_ENTRIES_TABLE = DESCRIPTOR + 0x20
+TWO_ENTRIES_HEADER = {"table.size": TWO_ENTRIES_TABLE, "primary": 0x200 + TWO_ENTRIES_TABLE, "A.offset": 0x200 + 2 * TWO_ENTRIES_TABLE}
 
 
 def diff(changes, size=PARTITION):
@@ -146,6 +150,7 @@ CASES = [
     ("0 DIFF 1 1", flipped(image("DIFF"), 0x200 + DESCRIPTOR)),  # the inactive table may hold anything
     ("0 DIFF 1 1", diff(MANY_BLOCKS, MANY_BLOCKS_PARTITION)),
     ("0 DIFF 1 1", diff(TWO_BLOCKS, TWO_BLOCKS_PARTITION)),
+    ("0 DIFF 1 1", image("DIFF", TWO_ENTRIES_HEADER, TWO_ENTRIES, length=0x200 + 2 * TWO_ENTRIES_TABLE + PARTITION)),
     # 1: the length.
     ("1", b""),
     ("1", image("DISA")[:0x1FF]),
@@ -176,7 +181,10 @@ CASES = [
     ("6", diff({"ivfc/opening": b"IVFC\0\0\1\0"})),
     ("6", diff({"dpfs/opening": b"DPFS\0\1\1\0"})),
     ("6", diff({"ivfc.size": 0x79, "ivfc.offset": LARGEST})),  # outside, and yet its size is judged
-    ("6", diff({"master.size": 0x40, "ivfc/master.size": 0x40})),
+    ("6", diff({"master.size": 0, "ivfc/master.size": 0})),
+    ("6", diff({"master.size": 0x1F, "ivfc/master.size": 0x1F})),
+    ("6", diff({"master.size": 0x21, "ivfc/master.size": 0x21})),
+    ("6", diff({"master.size": 0x820, "ivfc/master.size": 0x820})),
     ("6", diff({"ivfc/master.size": 0x40})),
     ("6", diff({"selector": 2})),
     ("6", diff({"ivfc/4.log": 17})),
@@ -189,6 +197,7 @@ CASES = [
     ("7", image("DISA", {"A.descriptor.size": 0x43}, a={"opening": bytes(8)})),  # DIFI itself is outside
     ("7", diff({"dpfs.offset": 0xDD, "dpfs/opening": bytes(8), "master.offset": 0xBC})),  # outside, so not read
     ("7", diff({"master.offset": 0x10B})),
+    ("7", diff(TWO_ENTRIES)),  # an allowed size, and no room for it
     ("7", diff({}, PARTITION - 1)),
     ("7", diff({"dpfs/2.offset": 7})),
     ("7", diff({**EXTERNAL, "external.offset": 16 + 191})),

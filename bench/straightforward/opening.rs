@@ -3,7 +3,7 @@
 use crate::plain_sha256::Sha256;
 use crate::rules::descriptor::{
     DIFI_OPENING, DIFI_SIZE, DPFS_LEVELS, DPFS_OPENING, DPFS_SIZE, ENTRY, IVFC_LEVELS, IVFC_OPENING, IVFC_SIZE,
-    MASTER_SIZE, SELECTOR,
+    MOST_MASTER_ENTRIES, SELECTOR,
 };
 use crate::rules::header::{
     Kind, DIFF_OPENING, DISA_OPENING, FRONT, HEADER, HEADER_LENGTH, LARGEST_TABLE, LONGEST_IMAGE, SHORTEST_IMAGE,
@@ -166,12 +166,17 @@ fn read_partition(table: &[u8], header: &Header, index: usize) -> Result<Partiti
     }
     let [ivfc, dpfs, master] = [0x08, 0x18, 0x28].map(|at| Extent::at(bytes, at));
     let selector = bytes[SELECTOR].into();
-    let sizes = [ivfc.size, dpfs.size, master.size] == [IVFC_SIZE, DPFS_SIZE, MASTER_SIZE].map(|size| size as u64);
+    let entries = master.size / ENTRY as u64;
+    let sizes = [ivfc.size, dpfs.size] == [IVFC_SIZE, DPFS_SIZE].map(|size| size as u64)
+        && master.size % ENTRY as u64 == 0
+        && (1..=MOST_MASTER_ENTRIES as u64).contains(&entries);
     // A piece that does not lie in the descriptor is not read, so what it holds is not judged.
     let form_holds = |piece: Extent, form: fn(&[u8]) -> bool| !piece.lies_in(descriptor.size) || form(piece.of(bytes));
+    let same_master = !ivfc.lies_in(descriptor.size) || number(ivfc.of(bytes), 0x08) == master.size;
     if !bytes.starts_with(DIFI_OPENING)
         || !sizes
         || selector > 1
+        || !same_master
         || !form_holds(ivfc, ivfc_form_holds)
         || !form_holds(dpfs, dpfs_form_holds)
     {
@@ -197,7 +202,6 @@ fn read_partition(table: &[u8], header: &Header, index: usize) -> Result<Partiti
 fn ivfc_form_holds(ivfc: &[u8]) -> bool {
     let levels = IVFC_LEVELS.map(|at| Level::at(ivfc, at));
     ivfc.starts_with(IVFC_OPENING)
-        && number(ivfc, 0x08) == MASTER_SIZE as u64
         && levels.iter().all(|level| level.extent.size >= 1 && (5..=16).contains(&level.log))
         && levels[..3].iter().all(|level| level.extent.size % ENTRY as u64 == 0)
 }

@@ -5,7 +5,7 @@ use outside::generate::contents;
 use outside::generate::random::Random;
 use outside::generate::samples::samples;
 use outside::generate::shape::Wanted;
-use outside::generate::Sample;
+use outside::generate::{valid_image, Sample};
 use outside::program::program_output;
 use outside::rules::calls::{abandon, begin, commit, read_committed, read_staged, verified, write};
 use outside::rules::descriptor::{Descriptor, Level, DPFS_SIZE, ENTRY, IVFC_SIZE, MASTER_SIZE};
@@ -159,6 +159,41 @@ fn lengths() {
     assert_eq!(number(open(&image)), 0);
     image.push(0);
     assert_eq!(open(&image), Err(Refusal::Length));
+}
+
+/// 1 to 64 entries in the master hash, and no part of one.
+#[test]
+fn sizes_of_the_master_hash() {
+    let wanted = Wanted {
+        kind: Some(Kind::Diff),
+        external: Some(false),
+        data: Some((40, 6)),
+        master_entries: Some(64),
+        table_size: Some(0x1000),
+        tight: true,
+        ..Wanted::default()
+    };
+    let Sample { mut image, opened, .. } = valid_image(&mut Random::new(1), &wanted);
+    let table = opened.header.active_table();
+    let ivfc = opened.partitions[0].descriptor.ivfc;
+    let answers = [(0, 6), (0x1F, 6), (0x20, 0), (0x21, 6), (0x40, 0), (0x7E0, 0), (0x800, 0), (0x820, 6)];
+    for (size, answer) in answers {
+        for place in [table.offset + 0x30, table.offset + ivfc.offset + 8] {
+            image[place as usize..place as usize + 8].copy_from_slice(&u64::to_le_bytes(size));
+        }
+        let digest = sha256(table.of(&image));
+        image[HEADER + 0x34..HEADER + 0x54].copy_from_slice(&digest);
+        assert_eq!(number(open(&image)), answer, "{size:#x}");
+    }
+}
+
+#[test]
+fn sizes_of_the_table() {
+    for (size, answer) in [(0x1000, 0), (0x1001, 0), (0x1FFF, 0), (0x2000, 0), (0x2001, 4)] {
+        let wanted = Wanted { table_size: Some(size), tight: true, ..Wanted::default() };
+        let image = valid_image(&mut Random::new(size), &wanted).image;
+        assert_eq!(number(open(&image)), answer, "{size:#x}");
+    }
 }
 
 #[test]

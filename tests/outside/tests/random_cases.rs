@@ -47,6 +47,7 @@ fn the_model_agrees_and_every_answer_occurs() {
     }
     assert!(tally.count("abandon", 0) > 0 && tally.count("abandon", 13) > 0);
     assert!(tally.power_failures > 0 && tally.writes_upon_writes > 0);
+    assert!(tally.later_entries > 0, "no write reached a later entry of a master hash");
     assert!(tally.rows > 0, "no call met eight blocks in a row");
 }
 
@@ -63,6 +64,7 @@ enum Fault {
     WriteDoesNothing,
     WritesLiveCopy,
     CopiesAgain,
+    WritesFirstMasterEntry,
     CommitKeepsHeader,
     CommitKeepsSession,
     AbandonKeepsRemains,
@@ -87,7 +89,7 @@ enum Fault {
     ForgetsWaiting,
 }
 
-const FAULTS: [Fault; 32] = [
+const FAULTS: [Fault; 33] = [
     Fault::RefusesEverything,
     Fault::ReadsZeros,
     Fault::FillsBufferOnRefusal,
@@ -98,6 +100,7 @@ const FAULTS: [Fault; 32] = [
     Fault::WriteDoesNothing,
     Fault::WritesLiveCopy,
     Fault::CopiesAgain,
+    Fault::WritesFirstMasterEntry,
     Fault::CommitKeepsHeader,
     Fault::CommitKeepsSession,
     Fault::AbandonKeepsRemains,
@@ -182,6 +185,8 @@ impl Subject for Faulty {
         let answer = Rules.write(image, session, partition, place, data);
         if answer != 0 || self.0 == Fault::WriteDoesNothing {
             image.copy_from_slice(&before);
+        } else if self.0 == Fault::WritesFirstMasterEntry {
+            entries_into_the_first(&before, image, partition);
         } else if self.0 == Fault::WritesLiveCopy {
             let opened = open(image).expect("it has opened");
             let partition = &opened.partitions[partition as usize];
@@ -315,6 +320,20 @@ fn padded_with_leftovers(value: &Running, state: &RunningBytes) -> Digest {
     last[56..].copy_from_slice(&(8 * value.total).to_be_bytes());
     let words = compress(value.hash, &last);
     std::array::from_fn(|place| words[place / 4].to_be_bytes()[place % 4])
+}
+
+/// Every entry of the staged master hash that a write has changed goes to the first entry's place instead.
+fn entries_into_the_first(before: &[u8], image: &mut [u8], partition: u64) {
+    let opened = open(image).expect("it has opened");
+    let partition = &opened.partitions[partition as usize];
+    let table = opened.header.inactive_table().offset + partition.place.descriptor.offset;
+    let first = (table + partition.descriptor.master.offset) as usize;
+    for place in (first + 32..first + partition.descriptor.master.size as usize).step_by(32) {
+        if image[place..place + 32] != before[place..place + 32] {
+            image.copy_within(place..place + 32, first);
+            image[place..place + 32].copy_from_slice(&before[place..place + 32]);
+        }
+    }
 }
 
 /// Copies every live level 3 block over its other copy: a begin that writes everything, or a write that loses the

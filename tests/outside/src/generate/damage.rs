@@ -131,6 +131,18 @@ impl Patient {
         self.store(position, &value.to_le_bytes())
     }
 
+    /// Sets the master hash's size in both places.
+    fn set_master_size(&mut self, size: u64) -> bool {
+        self.set(self.ivfc_position() + 8, size);
+        self.set(self.descriptor_position() + 0x30, size)
+    }
+
+    /// Where DIFI has the offset of each other piece, and the piece's size.
+    fn pieces(&self) -> [(usize, u128); 3] {
+        let descriptor = &self.partition().descriptor;
+        [(0x08, descriptor.ivfc.size), (0x18, descriptor.dpfs.size), (0x28, descriptor.master.size)]
+    }
+
     /// Changes one of the bytes at a position in the active table to another value.
     fn spoil_byte(&mut self, random: &mut Random, position: usize, length: u64) -> bool {
         let position = position + random.below(length) as usize;
@@ -337,10 +349,10 @@ pub const DAMAGES: &[Damage] = &[
         },
     },
     Damage {
-        name: "table size above 0x1000 with room for it",
+        name: "table size above 0x2000 with room for it",
         number: 4,
         apply: |random, patient| {
-            let size = random.pick(&[0x1001, 0x1002, 0x2000]);
+            let size = random.pick(&[0x2001, 0x2002, 0x4000]);
             *patient = self::patient(random, &Wanted { table_size: Some(size), ..Wanted::default() });
             true
         },
@@ -502,7 +514,7 @@ pub const DAMAGES: &[Damage] = &[
         name: "piece size",
         number: 6,
         apply: |random, patient| {
-            let (place, right) = random.pick(&[(0x10, 0x78), (0x20, 0x50), (0x30, 0x20)]);
+            let (place, right) = random.pick(&[(0x10, 0x78), (0x20, 0x50)]);
             let size = random.pick(&[0, 1, right - 1, right + 1, 2 * right, right + (1 << 32), HALF_RANGE, u64::MAX]);
             let position = patient.descriptor_position() + place;
             patient.set(position, size)
@@ -512,10 +524,10 @@ pub const DAMAGES: &[Damage] = &[
         name: "piece outside whose size is wrong too",
         number: 6,
         apply: |random, patient| {
-            let (place, right) = random.pick(&[(0x08, 0x78), (0x18, 0x50), (0x28, 0x20)]);
+            let (place, right) = random.pick(&patient.pieces());
             let position = patient.descriptor_position() + place;
-            patient.set(position, random.pick(&[0x1000, HALF_RANGE, u64::MAX]));
-            patient.set(position + 8, random.pick(&[0, right - 1, right + 1, u64::MAX]))
+            patient.set(position, random.pick(&[0x2000, HALF_RANGE, u64::MAX]));
+            patient.set(position + 8, random.pick(&[0, right as u64 - 1, right as u64 + 1, u64::MAX]))
         },
     },
     Damage {
@@ -523,7 +535,7 @@ pub const DAMAGES: &[Damage] = &[
         number: 6,
         apply: |random, patient| {
             let size = patient.partition().place.descriptor.size;
-            let (outside, length) = random.pick(&[(0x08, 0x78), (0x18, 0x50), (0x28, 0x20)]);
+            let (outside, length) = random.pick(&patient.pieces());
             let spoiled = if outside == 0x08 { patient.dpfs_position() } else { patient.ivfc_position() };
             let position = patient.descriptor_position() + outside;
             let offset = offset_outside(random, size, length);
@@ -605,17 +617,22 @@ pub const DAMAGES: &[Damage] = &[
         name: "unequal master hash sizes",
         number: 6,
         apply: |random, patient| {
-            let position = patient.ivfc_position() + 8;
-            patient.set(position, random.pick(&[0, 1, 0x1F, 0x21, 0x40, 0x20 + (1 << 32), HALF_RANGE, u64::MAX]))
+            let right = patient.partition().descriptor.master.size as u64;
+            let near = [right - 32, right - 1, right + 1, right + 32, 2 * right, right + (1 << 32)];
+            let all = [&near[..], &[0, 1, 0x20, 0x40, 0x7E0, 0x800, HALF_RANGE, u64::MAX]].concat();
+            let size = other_than(random, &all, |size| size == right);
+            let position = random.pick(&[patient.ivfc_position() + 8, patient.descriptor_position() + 0x30]);
+            patient.set(position, size)
         },
     },
     Damage {
         name: "master hash sizes equal and wrong",
         number: 6,
         apply: |random, patient| {
-            let size = random.pick(&[0, 1, 0x1F, 0x21, 0x40, 0x20 + (1 << 32), u64::MAX]);
-            patient.set(patient.ivfc_position() + 8, size);
-            patient.set(patient.descriptor_position() + 0x30, size)
+            let near = [0, 1, 0x1F, 0x21, 0x30, 0x3F, 0x41, 0x7DF, 0x7E1, 0x7FF, 0x801, 0x810, 0x820, 0x840];
+            let far = [0x1000, 0x20 + (1 << 32), 0x800 + (1 << 32), HALF_RANGE, u64::MAX - 31, u64::MAX];
+            let size = random.pick(&[&near[..], &far].concat());
+            patient.set_master_size(size)
         },
     },
     // 7: pieces in the descriptor.
@@ -652,7 +669,7 @@ pub const DAMAGES: &[Damage] = &[
         number: 7,
         apply: |random, patient| {
             let size = patient.partition().place.descriptor.size;
-            let (place, length) = random.pick(&[(0x08, 0x78), (0x18, 0x50), (0x28, 0x20)]);
+            let (place, length) = random.pick(&patient.pieces());
             let offset = offset_outside(random, size, length);
             let position = patient.descriptor_position() + place;
             patient.set(position, offset)
@@ -874,8 +891,16 @@ pub const DAMAGES: &[Damage] = &[
         name: "master hash has too few entries",
         number: 7,
         apply: |_, patient| {
-            let level1 = patient.hash_level(1);
-            level1.extent.size > 32 && patient.set(patient.ivfc_level(1)[2], 5)
+            let too_few = patient.hash_level(1).extent.size > patient.partition().descriptor.master.size;
+            too_few && patient.set(patient.ivfc_level(1)[2], 5)
+        },
+    },
+    Damage {
+        name: "master hash one entry shorter than level 1 needs",
+        number: 7,
+        apply: |_, patient| {
+            let size = ENTRY * (patient.hash_level(1).blocks() - 1);
+            size > 0 && patient.set_master_size(size as u64)
         },
     },
     // Two rules broken: the earlier one decides.
@@ -963,7 +988,10 @@ pub fn mutate(random: &mut Random, patient: &mut Patient) {
             16,
             17,
             0x200,
+            0x40,
+            0x800,
             0x1000,
+            0x2000,
             patient.image.len() as u64,
             HALF_RANGE,
             u64::MAX,

@@ -8,7 +8,7 @@ use crate::rules::header::Kind;
 /// Name and bytes of each sample.
 pub fn samples() -> Vec<(&'static str, Vec<u8>)> {
     let tight = Wanted { flag: Some(1), external: Some(false), tight: true, all_verified: true, ..Wanted::default() };
-    let loose = Wanted { external: Some(false), ..Wanted::default() };
+    let loose = Wanted { external: Some(false), master_entries: Some(1), ..Wanted::default() };
     let wanted = [
         ("disa-one.img", Wanted { kind: Some(Kind::Disa), count: Some(1), data: Some((4096, 12)), ..tight }),
         (

@@ -1,7 +1,7 @@
 //! Chooses where everything lies in a valid image: sizes, logarithms, orders and gaps.
 
 use super::random::Random;
-use crate::rules::descriptor::{Descriptor, Level, DIFI_SIZE, DPFS_SIZE, ENTRY, IVFC_SIZE, MASTER_SIZE};
+use crate::rules::descriptor::{Descriptor, Level, DIFI_SIZE, DPFS_SIZE, ENTRY, IVFC_SIZE, MOST_MASTER_ENTRIES};
 use crate::rules::extent::Extent;
 use crate::rules::header::{Header, Kind, PartitionPlace, FRONT, LARGEST_TABLE};
 use crate::rules::opening::{Opened, Partition};
@@ -17,6 +17,8 @@ pub struct Wanted {
     pub data: Option<(u64, u64)>,
     /// The table's size, if its descriptors leave room.
     pub table_size: Option<u64>,
+    /// How many entries the master hash has.
+    pub master_entries: Option<u64>,
     /// Up to so many spare entries and spare words of bits.
     pub spare: Option<u64>,
     /// As small as can be: no gaps, no spare entries, everything in the printed order.
@@ -41,8 +43,8 @@ pub fn choose(random: &mut Random, wanted: &Wanted) -> (Opened, usize) {
     // Descriptors in the table; a DIFF's is the whole table.
     let (mut descriptors, end) =
         gaps.lay_out(random, 0, &drafts.iter().map(|draft| draft.descriptor_size).collect::<Vec<_>>());
-    let largest = !wanted.tight && random.chance(2);
-    let table_size = end.max(wanted.table_size.map_or(if largest { LARGEST_TABLE } else { 0 }, u128::from));
+    let least = if wanted.tight { 0 } else { choose_table_size(random) };
+    let table_size = end.max(wanted.table_size.map_or(least, u128::from));
     if kind == Kind::Diff {
         descriptors = vec![Extent { offset: 0, size: table_size }];
     }
@@ -67,6 +69,15 @@ pub fn choose(random: &mut Random, wanted: &Wanted) -> (Opened, usize) {
         partitions: partitions.iter().map(|partition| partition.place).collect(),
     };
     (Opened { header, partitions }, length as usize)
+}
+
+/// The least size of a table: mostly what its descriptors need, now and then a large one or the largest.
+fn choose_table_size(random: &mut Random) -> u128 {
+    match random.below(100) {
+        0..=1 => LARGEST_TABLE,
+        2..=4 => random.between(0x1000, LARGEST_TABLE as u64).into(),
+        _ => 0,
+    }
 }
 
 /// A tight image's blocks of DPFS level 3: so large that few bits do.
@@ -118,7 +129,12 @@ struct Draft {
 
 fn draft_partition(random: &mut Random, gaps: &mut Gaps, wanted: &Wanted) -> Draft {
     let external = wanted.external.unwrap_or_else(|| random.chance(20));
-    let mut hash_levels = choose_hash_levels(random, wanted);
+    let master_entries = match wanted.master_entries {
+        Some(entries) => entries.into(),
+        None if wanted.tight => 1,
+        None => choose_master_entries(random),
+    };
+    let mut hash_levels = choose_hash_levels(random, wanted, master_entries);
 
     // The levels inside DPFS level 3.
     let inside = if external { 3 } else { 4 };
@@ -147,7 +163,7 @@ fn draft_partition(random: &mut Random, gaps: &mut Gaps, wanted: &Wanted) -> Dra
     let half = |index: usize, size: u128| Extent { offset: pairs[index].offset, size };
 
     // The pieces behind DIFI in the descriptor.
-    let (pieces, descriptor_size) = gaps.lay_out(random, DIFI_SIZE, &[IVFC_SIZE, DPFS_SIZE, MASTER_SIZE]);
+    let (pieces, descriptor_size) = gaps.lay_out(random, DIFI_SIZE, &[IVFC_SIZE, DPFS_SIZE, ENTRY * master_entries]);
     Draft {
         descriptor: Descriptor {
             ivfc: pieces[0],
@@ -196,25 +212,39 @@ fn size_of_blocks(random: &mut Random, blocks: u128, log: u64, unit: u64) -> u12
     (blocks - 1) * (1 << log) + u128::from(unit * random.between(1, (1 << log) / unit))
 }
 
+/// Half of the time one entry, else up to the most.
+fn choose_master_entries(random: &mut Random) -> u128 {
+    let most = MOST_MASTER_ENTRIES as u64;
+    match random.below(20) {
+        0..=9 => 1,
+        10..=14 => random.between(2, 8).into(),
+        15..=17 => random.between(2, most).into(),
+        18 => (most - 1).into(),
+        _ => most.into(),
+    }
+}
+
 /// Sizes and logarithms of IVFC levels 1 to 4, from level 4 upwards. The offsets come later.
-fn choose_hash_levels(random: &mut Random, wanted: &Wanted) -> [Level; 4] {
+fn choose_hash_levels(random: &mut Random, wanted: &Wanted, master_entries: u128) -> [Level; 4] {
     let unplaced = |size: u128, log: u64| Level { extent: Extent { offset: 0, size }, log };
+    // With few entries in a block the levels stay long, so that level 1 has several blocks above data.
+    let slender = master_entries > 1 && random.chance(60);
+    let hash_log = |random: &mut Random| if slender { 5 } else { choose_log(random, wanted, 5) };
     let (data_size, data_log) =
         wanted.data.unwrap_or_else(|| (choose_data_size(random), choose_log(random, wanted, 5)));
     let level4 = unplaced(data_size.into(), data_log);
-    let level3 = unplaced(entries_for(random, wanted, level4.blocks()), choose_log(random, wanted, 5));
-    // Level 1 is one block of at most 2^16 bytes, so level 2 must not have too many blocks.
+    let level3 = unplaced(entries_for(random, wanted, level4.blocks()), hash_log(random));
+    // Level 1's blocks have at most 2^16 bytes and an entry each, so level 2 must not have too many blocks.
     let level2_size = entries_for(random, wanted, level3.blocks());
-    let mut level2 = unplaced(level2_size, choose_log(random, wanted, 5));
-    while level2.blocks() * ENTRY > 1 << 16 {
+    let mut level2 = unplaced(level2_size, hash_log(random));
+    while level2.blocks() * ENTRY > master_entries << 16 {
         level2.log += 1;
     }
-    let needed = level2.blocks() * ENTRY;
-    let mut level1_log = choose_log(random, wanted, 5);
-    while needed > 1 << level1_log {
+    let mut level1_log = hash_log(random);
+    while level2.blocks() * ENTRY > master_entries << level1_log {
         level1_log += 1;
     }
-    let level1_size = entries_for(random, wanted, level2.blocks()).min(1 << level1_log);
+    let level1_size = entries_for(random, wanted, level2.blocks()).min(master_entries << level1_log);
     [unplaced(level1_size, level1_log), level2, level3, level4]
 }
 

@@ -6,9 +6,12 @@ use super::refusal::Refusal;
 pub const DIFI_SIZE: u128 = 0x44;
 pub const IVFC_SIZE: u128 = 0x78;
 pub const DPFS_SIZE: u128 = 0x50;
-pub const MASTER_SIZE: u128 = 0x20;
 /// The length of one hash: an entry.
 pub const ENTRY: u128 = 32;
+/// The master hash has 1 to so many entries.
+pub const MOST_MASTER_ENTRIES: u128 = 64;
+/// The usual master hash: one entry.
+pub const MASTER_SIZE: u128 = ENTRY;
 
 pub const DIFI_OPENING: &[u8; 8] = b"DIFI\x00\x00\x01\x00";
 pub const IVFC_OPENING: &[u8; 8] = b"IVFC\x00\x00\x02\x00";
@@ -79,7 +82,7 @@ pub fn read_descriptor(bytes: &[u8], partition_size: u128) -> Result<Descriptor,
     let dpfs = extent_at(bytes, 0x18);
     let master = extent_at(bytes, 0x28);
     let selector = number(bytes, SELECTOR, 1);
-    let pieces_fit = ivfc.size == IVFC_SIZE && dpfs.size == DPFS_SIZE && master.size == MASTER_SIZE;
+    let pieces_fit = ivfc.size == IVFC_SIZE && dpfs.size == DPFS_SIZE && master_size_holds(master.size);
     if &bytes[..8] != DIFI_OPENING || !pieces_fit || selector > 1 {
         return Err(Refusal::DescriptorForm);
     }
@@ -106,6 +109,11 @@ pub fn read_descriptor(bytes: &[u8], partition_size: u128) -> Result<Descriptor,
     } else {
         Err(Refusal::DescriptorPlaces)
     }
+}
+
+/// Whole entries, from one to the most.
+fn master_size_holds(size: u128) -> bool {
+    size.is_multiple_of(ENTRY) && (1..=MOST_MASTER_ENTRIES).contains(&(size / ENTRY))
 }
 
 /// IVFC's part in refusal 6.

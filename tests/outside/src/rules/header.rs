@@ -5,7 +5,7 @@ use super::refusal::Refusal;
 
 pub const SHORTEST_IMAGE: usize = 0x200;
 pub const LONGEST_IMAGE: usize = 0x4000000;
-pub const LARGEST_TABLE: u128 = 0x1000;
+pub const LARGEST_TABLE: u128 = 0x2000;
 /// Where the header lies in the image, and where what it covers ends.
 pub const HEADER: usize = 0x100;
 pub const HEADER_LENGTH: usize = 0x100;

@@ -2,7 +2,7 @@
 //! bytes must be as before, and the subject must have done just the same.
 
 use super::call::{untouched_buffer, Call, Outcome, UNTOUCHED_DESCRIPTION};
-use super::properties::{check_begin, check_commit, check_write, require};
+use super::properties::{check_begin, check_commit, check_write, require, touched_master_entries};
 use super::rows::touches_row;
 use super::signing::check_signing;
 use super::tally::Tally;
@@ -250,6 +250,7 @@ impl<'a> List<'a> {
                 let range = Extent::new(*place, data.len() as u64);
                 let moved_before = check_write(before, &self.image, &self.opened, partition, range)?;
                 self.tally.writes_upon_writes += u64::from(moved_before);
+                self.tally.later_entries += u64::from(touched_master_entries(partition, range).end > 1);
                 require(!data.is_empty() || self.image == before, || "an empty write changed the image".into())?;
             }
             _ => require(self.image == before, || "the image changed".into())?,

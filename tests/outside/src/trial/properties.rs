@@ -1,5 +1,7 @@
 //! Facts that must hold between the image before and after an accepted call, said without the code that makes them so.
 
+use std::ops::Range;
+
 use crate::rules::calls::{blocks_of, touched_blocks};
 use crate::rules::descriptor::{ENTRY, SELECTOR};
 use crate::rules::dpfs::{bit_place, View};
@@ -79,6 +81,7 @@ pub fn check_write(
         let may_change = || stored.iter().any(|extent| !extent.disjoint(one));
         require(old == new || may_change(), || format!("write: changed staged level 3 at {place:#x}"))?;
     }
+    check_staged_table(before, after, opened, partition, range)?;
     let live = View::committed(before, opened, partition);
     let mut moved_before = false;
     let mut level2_reached = vec![false; descriptor.level2.blocks() as usize];
@@ -100,6 +103,35 @@ pub fn check_write(
         require(apart_now == (apart || reached), || format!("write: level 2 block {block} is on the wrong copy"))?;
     }
     Ok(moved_before)
+}
+
+/// Of the staged table a write changes the master hash's entries for the touched blocks of level 1 alone.
+fn check_staged_table(
+    before: &[u8],
+    after: &[u8],
+    opened: &Opened,
+    partition: &Partition,
+    range: Extent,
+) -> Result<(), String> {
+    let entries = touched_master_entries(partition, range);
+    let start = partition.place.descriptor.offset + partition.descriptor.master.offset;
+    let stored = Extent { offset: start + ENTRY * entries.start, size: ENTRY * (entries.end - entries.start) };
+    let table = opened.header.inactive_table();
+    for (place, (old, new)) in table.of(before).iter().zip(table.of(after)).enumerate() {
+        let may_change = !stored.disjoint(Extent { offset: place as u128, size: 1 });
+        require(old == new || may_change, || format!("write: changed the staged table at {place:#x}"))?;
+    }
+    Ok(())
+}
+
+/// The master hash's entries above a range of level 4.
+pub fn touched_master_entries(partition: &Partition, range: Extent) -> Range<u128> {
+    let mut touched = touched_blocks(partition, range);
+    for level in [3, 2, 1] {
+        let entries = Extent { offset: ENTRY * touched.start, size: ENTRY * (touched.end - touched.start) };
+        touched = blocks_of(partition.descriptor.hash_level(level).block_size(), entries);
+    }
+    touched
 }
 
 /// Where a write stores in DPFS level 3: its bytes, and the entries of the touched blocks in levels 3, 2 and 1.

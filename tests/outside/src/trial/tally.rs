@@ -27,6 +27,8 @@ pub struct Tally {
     pub power_failures: u64,
     /// Accepted writes in which a level 3 block had moved already, so that it must be left alone.
     pub writes_upon_writes: u64,
+    /// Accepted writes that reach an entry of the master hash other than the first.
+    pub later_entries: u64,
     /// Accepted calls over blocks that may be hashed side by side.
     pub rows: u64,
 }
@@ -65,8 +67,8 @@ impl std::fmt::Display for Tally {
         }
         write!(
             out,
-            "\npower failures {}, writes upon moved blocks {}, calls over rows of eight blocks {}",
-            self.power_failures, self.writes_upon_writes, self.rows
+            "\npower failures {}, writes upon moved blocks {}, writes to later master entries {}, calls over rows of eight blocks {}",
+            self.power_failures, self.writes_upon_writes, self.later_entries, self.rows
         )
     }
 }
