@@ -1,13 +1,15 @@
 /*
  * Teplovist: DISA and DIFF save containers.
  *
- * Each call works on one image that the caller lends it, decrypted and whole, and keeps nothing between calls. The 0x100 bytes at the
- * front of an image (its AES-CMAC) are neither read nor changed: the host signs again after a commit.
+ * A call works on what the caller lends it, an image that is decrypted and whole or a running digest, and keeps nothing between calls. The
+ * 0x100 bytes at the front of an image (its AES-CMAC) are neither read nor changed: the host signs again after a commit. What it signs is
+ * the SHA-256 of the block that teplovist_signing_block builds.
  *
  * A pointer and a length lend that many bytes for the call. Both are taken as they are, so they must be right: no pointer may be null, not
  * even where the length is 0 (it is not followed then); the bytes must be there, in one object, so no length is above PTRDIFF_MAX; a session
- * is 257 bytes, and a description 80 numbers, aligned as a uint64_t is. Of a call that breaks this nothing is promised, no refusal either. A
- * length that is right, but too much, is refused: an image above 0x4000000 bytes by 1, and a buffer or data past level 4's end by 9.
+ * is 257 bytes, a block 284, a running digest 104 and a digest 32, a description is 80 numbers and a signer 4, aligned as a uint64_t is. Of a
+ * call that breaks this nothing is promised, no refusal either. A length that is right, but too much, is refused: an image above 0x4000000
+ * bytes by 1, a buffer or data past level 4's end by 9, and a piece that makes a message too long by 22.
  *
  * Two arguments of one call must not overlap. Any number of calls may read one image at a time; a call that changes one must be alone with it.
  */
@@ -23,8 +25,9 @@ extern "C" {
 
 /*
  * Answers. The low 8 bits of an answer are 0 if the call is accepted and else the refusal's number; the bits above are a value: for an
- * accepted teplovist_verified 1 for yes and 0 for no, for an accepted teplovist_count_verified the count, for the refusals 10 and 11 the
- * lowest block of level 4 to which they apply, and else 0. The first check that fails decides; a call that is refused changes nothing.
+ * accepted teplovist_verified 1 for yes and 0 for no, for an accepted teplovist_count_verified the count, for an accepted
+ * teplovist_signing_block the block's length, for the refusals 10 and 11 the lowest block of level 4 to which they apply, and else 0. The
+ * first check that fails decides; a call that is refused changes nothing.
  */
 #define TEPLOVIST_REFUSAL(answer) ((unsigned)((answer) & 0xFF))
 #define TEPLOVIST_VALUE(answer) ((uint64_t)(answer) >> 8)
@@ -44,7 +47,9 @@ enum {
     TEPLOVIST_UNVERIFIED_ABOVE = 11, /* write: a hash block above a touched block is not verified */
     TEPLOVIST_EXTERNAL_LEVEL = 12,  /* write: the partition's level 4 is external */
     TEPLOVIST_SESSION_STATE = 13,   /* the session is idle where begun is needed, or begun where idle is */
-    TEPLOVIST_STALE = 14            /* the header or the inactive table is not as the session left it */
+    TEPLOVIST_STALE = 14,           /* the header or the inactive table is not as the session left it */
+    TEPLOVIST_SIGNER_KIND = 15,     /* the container's kind does not fit the signer's type */
+    TEPLOVIST_DIGEST_TOO_LONG = 22  /* a running digest was fed, or would be, more than 2^61 - 1 bytes */
 };
 
 /*
@@ -108,7 +113,37 @@ enum {
     TEPLOVIST_DPFS_LEVEL3_LOG = 32
 };
 
-/* Every call but teplovist_abandon opens the image first and may be refused with 1 to 7. */
+/*
+ * A signer is 4 numbers: its type, an ID, and for a device file the ID in the file's name and the ID of its folder. The type counts modulo
+ * 6, a save ID, a database ID and a device file's two modulo 2^32; a number that a type has no use for is not looked at.
+ */
+#define TEPLOVIST_SIGNER_LENGTH 4
+
+enum {
+    TEPLOVIST_CARD = 0,             /* CTR-NOR0: a game card's save; DISA, a block of 0x28 bytes */
+    TEPLOVIST_TITLE = 1,            /* CTR-SIGN: a save on an SD card, by its title ID; DISA, 0x30 bytes */
+    TEPLOVIST_SYSTEM = 2,           /* CTR-SYS0: a system save, by its save ID; DISA, 0x110 bytes */
+    TEPLOVIST_QUOTA = 3,            /* CTR-EXT0: Quota.dat, by the extdata ID; DIFF, 0x11C bytes */
+    TEPLOVIST_DEVICE = 4,           /* CTR-EXT0: a device file, by the extdata ID; DIFF, 0x11C bytes */
+    TEPLOVIST_DATABASE = 5          /* CTR-9DB0: a title database, by its ID; DIFF, 0x10C bytes */
+};
+
+/* The longest block. A block stands at the front of so many bytes, with zeros after it. */
+#define TEPLOVIST_BLOCK_SIZE 284
+
+#define TEPLOVIST_DIGEST_SIZE 32
+
+/*
+ * A running digest is 104 bytes that the caller keeps: the hash value's eight words, the block whose front waits to be full, and how many
+ * bytes were fed, each number with its least significant byte first. Any 104 bytes are one, but only what teplovist_digest_start made, and
+ * was then fed, is the digest of a message.
+ */
+#define TEPLOVIST_DIGEST_STATE_SIZE 104
+
+/*
+ * The calls from teplovist_open to teplovist_commit open the image first and may be refused with 1 to 7. teplovist_abandon and the calls on
+ * a running digest take no image; the two calls for a signer look at its length and its header alone.
+ */
 
 /* Opens an image and stores its 80 numbers. Refusals: 1 to 7. */
 uint64_t teplovist_open(const uint8_t *image, size_t image_length, uint64_t *description);
@@ -148,6 +183,27 @@ uint64_t teplovist_commit(uint8_t *image, size_t image_length, uint8_t *session)
 
 /* Ends a session without a look at the image: what it staged is forgotten. Refusals: 13. */
 uint64_t teplovist_abandon(uint8_t *session);
+
+/*
+ * Stores the block that a signer signs of an image; the answer's value is its length. The header is taken as it is, whatever its fields
+ * say: the image need not open. All 284 bytes are stored, or none changes. Refusals: 1, 2, 15.
+ */
+uint64_t teplovist_signing_block(const uint8_t *image, size_t image_length, const uint64_t *signer, uint8_t *block);
+
+/* Stores the SHA-256 of that block, 32 bytes. Refusals: 1, 2, 15. */
+uint64_t teplovist_signing_digest(const uint8_t *image, size_t image_length, const uint64_t *signer, uint8_t *digest);
+
+/* Starts a running digest (SHA-256): it was fed nothing. */
+void teplovist_digest_start(uint8_t *state);
+
+/*
+ * Feeds a piece of a message to a running digest. Whatever pieces a message is cut into, the digest is that of the whole. Refusals: 22, also
+ * for a piece of no bytes where too many were fed already.
+ */
+uint64_t teplovist_digest_feed(uint8_t *state, const uint8_t *piece, size_t piece_length);
+
+/* Stores the digest of what was fed, 32 bytes. The running digest is only read, and may be fed further. Refusals: 22. */
+uint64_t teplovist_digest_finish(const uint8_t *state, uint8_t *digest);
 
 #ifdef __cplusplus
 }

@@ -1,7 +1,8 @@
 /*
  * session IMAGE..: for each image compares every number of its description with the image's own bytes, read at the offsets that the paper
- * prints, and runs a whole session on it. It knows the library by include/teplovist.h alone. Prints what differs and ends with 1, or says
- * how much it compared. No two names of the description may have the same numbers in all images: they could be exchanged unseen.
+ * prints, looks at each block that is signed, and runs a whole session on it. It knows the library by include/teplovist.h alone. Prints what
+ * differs and ends with 1, or says how much it compared. No two names of the description may have the same numbers in all images: they could
+ * be exchanged unseen.
  */
 #include <stdio.h>
 #include <stdlib.h>
@@ -364,12 +365,105 @@ static void expect_refusals(const uint8_t *image, size_t length) {
     expect("the buffer of a read that is refused", 0x5A, byte);
 }
 
+/* ---- what is signed, and running digests */
+
+/* A type of block by the paper's table: its letters, its length, and how long the copy of the header is at its end. */
+static const struct type {
+    const char *letters;
+    uint64_t kind, length, header;
+} types[6] = {
+    [TEPLOVIST_CARD] = {"CTR-NOR0", 0, 0x28, 0},
+    [TEPLOVIST_TITLE] = {"CTR-SIGN", 0, 0x30, 0},
+    [TEPLOVIST_SYSTEM] = {"CTR-SYS0", 0, 0x110, 0x100},
+    [TEPLOVIST_QUOTA] = {"CTR-EXT0", 1, 0x11C, 0x100},
+    [TEPLOVIST_DEVICE] = {"CTR-EXT0", 1, 0x11C, 0x100},
+    [TEPLOVIST_DATABASE] = {"CTR-9DB0", 1, 0x10C, 0x100},
+};
+
+/* The digest of bytes that are fed in two pieces. */
+static void digest_in_two(const uint8_t *bytes, size_t cut, size_t length, uint8_t *digest) {
+    uint8_t state[TEPLOVIST_DIGEST_STATE_SIZE];
+    memset(state, 0xA5, sizeof state);
+    teplovist_digest_start(state);
+    ANSWERS(TEPLOVIST_ACCEPTED, teplovist_digest_feed(state, bytes, cut));
+    ANSWERS(TEPLOVIST_ACCEPTED, teplovist_digest_feed(state, bytes + cut, length - cut));
+    ANSWERS(TEPLOVIST_ACCEPTED, teplovist_digest_finish(state, digest));
+}
+
+/* The fields of a block, from its letters to its end. */
+static void expect_fields(const uint8_t *block, const uint64_t *signer, const uint8_t *header) {
+    const struct type *type = &types[signer[0]];
+    expect_bytes("the letters", (const uint8_t *)type->letters, block, 8);
+    if (signer[0] == TEPLOVIST_TITLE || signer[0] == TEPLOVIST_QUOTA || signer[0] == TEPLOVIST_DEVICE)
+        expect("the ID", signer[1], field(block, 8, 8));
+    if (signer[0] == TEPLOVIST_SYSTEM)
+        expect("the save ID", (uint32_t)signer[1], field(block, 8, 8));
+    if (signer[0] == TEPLOVIST_DATABASE)
+        expect("the database ID", (uint32_t)signer[1], field(block, 8, 4));
+    if (type->length == 0x11C) {
+        int device = signer[0] == TEPLOVIST_DEVICE;
+        expect("the file's mark", device ? 1 : 0, field(block, 0x10, 4));
+        expect("the ID in its name", device ? (uint32_t)signer[2] : 0, field(block, 0x14, 4));
+        expect("the ID of its folder", device ? (uint32_t)signer[3] : 0, field(block, 0x18, 4));
+    }
+    expect_bytes("the header's copy", header, block + type->length - type->header, type->header);
+}
+
+/* One type of block of the image, which is of that kind or refused. */
+static void expect_signing(const uint8_t *image, size_t length, uint64_t number) {
+    const struct type *type = &types[number];
+    uint64_t signer[TEPLOVIST_SIGNER_LENGTH] = {number, 0x0123456789ABCDEF, 0xF0E1D2C3B4A59687, 0x1F2E3D4C5B6A7988};
+    uint8_t block[TEPLOVIST_BLOCK_SIZE], digest[TEPLOVIST_DIGEST_SIZE], wanted[TEPLOVIST_DIGEST_SIZE];
+    uint8_t untouched[TEPLOVIST_BLOCK_SIZE], zeros[TEPLOVIST_BLOCK_SIZE] = {0};
+    memset(untouched, 0xA5, sizeof untouched);
+    memset(block, 0xA5, sizeof block);
+    memset(digest, 0xA5, sizeof digest);
+    ANSWERS(TEPLOVIST_LENGTH, teplovist_signing_block(image, 0x1FF, signer, block));
+    if (type->kind != header_of(image).kind) {
+        ANSWERS(TEPLOVIST_SIGNER_KIND, teplovist_signing_block(image, length, signer, block));
+        ANSWERS(TEPLOVIST_SIGNER_KIND, teplovist_signing_digest(image, length, signer, digest));
+        expect_bytes("a block that is refused", untouched, block, sizeof block);
+        expect_bytes("a digest that is refused", untouched, digest, sizeof digest);
+        return;
+    }
+    expect("signing_block", type->length << 8, teplovist_signing_block(image, length, signer, block));
+    expect_fields(block, signer, image + 0x100);
+    expect_bytes("the zeros after a block", zeros, block + type->length, sizeof block - type->length);
+    ANSWERS(TEPLOVIST_ACCEPTED, teplovist_signing_digest(image, length, signer, digest));
+    digest_in_two(block, number * 13, type->length, wanted);
+    expect_bytes("the digest of a block", wanted, digest, sizeof digest);
+}
+
+/* A digest that the standard's examples print, and a digest that was fed all that it may be. */
+static void expect_digests(void) {
+    static const uint8_t printed[] = {0xBA, 0x78, 0x16, 0xBF, 0x8F, 0x01, 0xCF, 0xEA, 0x41, 0x41, 0x40, 0xDE, 0x5D, 0xAE, 0x22, 0x23,
+                                      0xB0, 0x03, 0x61, 0xA3, 0x96, 0x17, 0x7A, 0x9C, 0xB4, 0x10, 0xFF, 0x61, 0xF2, 0x00, 0x15, 0xAD};
+    static const uint8_t most[] = {0xFF, 0xFF, 0xFF, 0xFF, 0xFF, 0xFF, 0xFF, 0x1F};
+    uint8_t state[TEPLOVIST_DIGEST_STATE_SIZE] = {0}, before[TEPLOVIST_DIGEST_STATE_SIZE], digest[TEPLOVIST_DIGEST_SIZE];
+    uint8_t kept[TEPLOVIST_DIGEST_SIZE];
+    digest_in_two((const uint8_t *)"abc", 1, 3, digest);
+    expect_bytes("the digest of abc", printed, digest, sizeof digest);
+    memcpy(state + 96, most, sizeof most);
+    memcpy(before, state, sizeof before);
+    ANSWERS(TEPLOVIST_ACCEPTED, teplovist_digest_feed(state, before, 0));
+    ANSWERS(TEPLOVIST_DIGEST_TOO_LONG, teplovist_digest_feed(state, before, 1));
+    expect_bytes("a running digest that is refused", before, state, sizeof state);
+    ANSWERS(TEPLOVIST_ACCEPTED, teplovist_digest_finish(state, digest));
+    memcpy(kept, digest, sizeof kept);
+    state[103] = 0x20;
+    ANSWERS(TEPLOVIST_DIGEST_TOO_LONG, teplovist_digest_feed(state, before, 0));
+    ANSWERS(TEPLOVIST_DIGEST_TOO_LONG, teplovist_digest_finish(state, digest));
+    expect_bytes("the digest of a call that is refused", kept, digest, sizeof digest);
+}
+
 static void run(uint8_t *image, size_t length) {
     uint64_t q;
     expect_description(image, length);
     if (wrong != 0)
         return; /* the numbers are not to be relied on */
     expect_refusals(image, length);
+    for (q = 0; q < sizeof types / sizeof *types; q++)
+        expect_signing(image, length, q);
     for (q = 0; q < description[TEPLOVIST_PARTITIONS]; q++) {
         struct level4 level = level4_of(q);
         expect_committed(image, length, level);
@@ -410,6 +504,8 @@ int main(int count, char **arguments) {
         run(image, length);
         free(image);
     }
+    image_name = "digests";
+    expect_digests();
     image_name = "the images";
     expect("pairs of names that are alike", 0, pairs_alike(&header_names) + pairs_alike(&partition_names));
     printf("session: %d images, %u compared, %u wrong\n", count - 1, compared, wrong);

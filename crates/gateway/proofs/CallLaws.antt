@@ -3,7 +3,7 @@ use Prim.Native.Nat.{ℕ}
 use mathlib.Core.Path.{_≡_, _∙_}
 use mathlib.Core.List.{List}
 use Rattle.steps.specs.declared.Session.{Session}
-use Rattle.steps.specs.declared.Outcome.{Outcome}
+use Rattle.layout.specs.declared.Outcome.{Outcome}
 use Rattle.steps.specs.declared.Step.{Step}
 use Rattle.steps.specs.Calls.{After, Stepped}
 use Rattle.gateway.specs.Boundary.{outcomeAnswer, sessionOf, sessionLeft, Called}

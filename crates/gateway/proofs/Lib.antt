@@ -1,2 +1,4 @@
 pub mod Laws
 pub mod CallLaws
+pub mod SignerLaws
+pub mod StateLaws

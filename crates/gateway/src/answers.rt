@@ -4,10 +4,12 @@ use layout::Outcome;
 use layout::Refusal;
 use layout::refusals::carried_by;
 use layout::refusals::number_of;
+use signing::Built;
 use steps::Count;
 use steps::Verdict;
 ghost use mathlib.Core.Path.{_≡_};
 ghost use Rattle.gateway.specs.Boundary.{packed, refusedAnswer, outcomeAnswer, verdictAnswer, countAnswer, openedAnswer};
+ghost use Rattle.gateway.specs.Signers.{builtAnswer};
 
 fn pack(number: u64, value: u64) -> u64
     ensures { λ r. ⌜ r ≡ packed number value ⌝ }
@@ -56,5 +58,15 @@ pub fn opened_answer(answer: Opened) -> u64
     match answer {
         Opened::Valid(_) => pack(0, 0),
         Opened::Refused(refusal) => refused_answer(refusal),
+    }
+}
+
+// The block's length.
+pub fn built_answer(built: Built) -> u64
+    ensures { λ r. ⌜ r ≡ builtAnswer built ⌝ }
+{
+    match built {
+        Built::Bytes(n) => pack(0, n),
+        Built::Refused(refusal) => refused_answer(refusal),
     }
 }

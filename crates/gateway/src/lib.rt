@@ -1,22 +1,38 @@
 // The calls for programs in C and other languages, as include/teplovist.h describes them: numbers and bytes go in and out. None asks
 // anything of its caller but pointers that are good.
+use answers::built_answer;
 use answers::count_answer;
 use answers::opened_answer;
 use answers::outcome_answer;
 use answers::verdict_answer;
+use container::blocks;
 use container::reading;
 use container::sessions;
 use description::description_left;
+use digests::digest_left;
+use digests::running_of;
+use digests::state_bytes;
+use digests::state_left;
 use memory::session_left;
 use memory::session_of;
+use signers::signer_of;
+use signing::digests::advance;
+use signing::digests::finish;
+use signing::digests::start;
 ghost use mathlib.Core.Path.{_≡_};
 ghost use Rattle.layout.specs.Opening.{opened};
+ghost use Rattle.sha256.specs.Running.{stateOf, fresh};
+ghost use Rattle.signing.specs.Calls.{signed, outcomeOf, builtAs, blockLeft, digestLeft};
 ghost use Rattle.steps.specs.Calls as calls;
 ghost use Rattle.gateway.specs.Boundary.{outcomeAnswer, verdictAnswer, countAnswer, openedAnswer, descriptionLeft, sessionOf, sessionLeft, Called};
+ghost use Rattle.gateway.specs.Digests.{runningOf, FedBytes, FinishedBytes};
+ghost use Rattle.gateway.specs.Signers.{signerOf, builtAnswer};
 
 mod answers;
 mod description;
+mod digests;
 mod memory;
+mod signers;
 
 // Opens an image and describes it.
 #[no_mangle]
@@ -123,5 +139,64 @@ pub extern "C" fn teplovist_abandon(session: &mut [u8; 257]) -> u64
     let abandoned = sessions::abandon(session_of(before));
     *session = session_left(abandoned, before);
     let outcome = abandoned.outcome;
+    outcome_answer(outcome)
+}
+
+// The block that a signer signs of an image.
+#[no_mangle]
+pub extern "C" fn teplovist_signing_block(
+    image: &[u8],
+    signer: &[u64; 4],
+    block: &mut [u8; 284],
+) -> u64
+    ensures { λ r. ⌜ (r ≡ builtAnswer (builtAs (signed (now (image .entry)) (signerOf (now (signer .entry)))))) × (now (block .exit) ≡ blockLeft (signed (now (image .entry)) (signerOf (now (signer .entry)))) (now (block .entry))) ⌝ }
+{
+    let numbers = *signer;
+    built_answer(blocks::signing_block(image, signer_of(numbers), block))
+}
+
+// Its SHA-256, which is what is signed.
+#[no_mangle]
+pub extern "C" fn teplovist_signing_digest(
+    image: &[u8],
+    signer: &[u64; 4],
+    digest: &mut [u8; 32],
+) -> u64
+    ensures { λ r. ⌜ (r ≡ outcomeAnswer (outcomeOf (signed (now (image .entry)) (signerOf (now (signer .entry)))))) × (now (digest .exit) ≡ digestLeft (signed (now (image .entry)) (signerOf (now (signer .entry)))) (now (digest .entry))) ⌝ }
+{
+    let numbers = *signer;
+    outcome_answer(blocks::signing_digest(image, signer_of(numbers), digest))
+}
+
+// Starts a running digest.
+#[no_mangle]
+pub extern "C" fn teplovist_digest_start(state: &mut [u8; 104])
+    ensures { λ _. ⌜ stateOf (runningOf (now (state .exit))) ≡ fresh ⌝ }
+{
+    *state = state_bytes(start());
+}
+
+// Feeds a piece to a running digest.
+#[no_mangle]
+pub extern "C" fn teplovist_digest_feed(state: &mut [u8; 104], piece: &[u8]) -> u64
+    ensures { λ r. ⌜ FedBytes r (now (state .entry)) (now (piece .entry)) (now (state .exit)) ⌝ }
+{
+    let before = *state;
+    let fed = advance(running_of(before), piece);
+    *state = state_left(fed, before);
+    let outcome = fed.outcome;
+    outcome_answer(outcome)
+}
+
+// The digest of what was fed.
+#[no_mangle]
+pub extern "C" fn teplovist_digest_finish(state: &[u8; 104], digest: &mut [u8; 32]) -> u64
+    ensures { λ r. ⌜ FinishedBytes r (now (state .entry)) (now (digest .entry)) (now (digest .exit)) ⌝ }
+{
+    let bytes = *state;
+    let before = *digest;
+    let finished = finish(running_of(bytes));
+    *digest = digest_left(finished, before);
+    let outcome = finished.outcome;
     outcome_answer(outcome)
 }
