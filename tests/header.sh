@@ -4,7 +4,7 @@
 # header declares.
 set -eu -o pipefail
 cd "$(dirname "$0")/.."
-rt staticlib gateway | tail -n 1
+bash tests/archive
 folder=$(mktemp -d)
 trap 'rm -r "$folder"' EXIT
 strict=(-Wall -Wextra -Werror -pedantic)

@@ -6,7 +6,7 @@ if ! grep -q '^gateway:' crates.txt; then
   echo 'outside: crates.txt has no gateway, so there is no library to compare with'
   exit 1
 fi
-rt staticlib gateway
+bash tests/archive
 cd tests/outside
 cargo test --offline --quiet --features gateway
 cargo run --offline --release --quiet --features gateway -- check

@@ -8,10 +8,7 @@ if ! command -v valgrind >/dev/null; then
   echo 'stores_at_run: valgrind is missing (Debian has it as the package valgrind)'
   exit 1
 fi
-archive=target/staticlib/libgateway.a
-if [ ! -f "$archive" ] || [ -n "$(find crates -newer "$archive" -name '*.rt' -print -quit)" ]; then
-  rt staticlib gateway | tail -n 1
-fi
+bash tests/archive
 (cd tests/outside && cargo build --offline --release --quiet --features gateway)
 outside=tests/outside/target/release/outside
 folder=$(mktemp -d)
