@@ -49,7 +49,7 @@ loop-again : tie.Need-loop-again Inv-loop μ-loop
 loop-again c =
     let l = c .before .before .before .before .loop in
     let m = now (c .before .before .before .before .before .before .before .args .message) in
-    (omega arith, holds-part _ m (l .at) (c .before .before .piece-end .result) (omega arith) (c .update .ensures .1 (take (l .at) m) (l .inv .1)))
+    (omega arith, holds-part _ m (l .at) (c .before .before .piece-end .result) (omega arith) (c .update .ensures .1 .0 (take (l .at) m) (l .inv .1)))
 
 finish-requires : tie.Need-finish-requires Inv-loop μ-loop
 finish-requires c κs = search needs
@@ -58,7 +58,7 @@ returns : tie.Need-returns Inv-loop μ-loop
 returns c =
     let l = c .before .before .loop in
     let m = now (c .before .before .before .before .before .args .message) in
-    c .finish .ensures m (holds-whole _ m (l .at) (omega arith) (l .inv .1))
+    c .finish .ensures .0 m (holds-whole _ m (l .at) (omega arith) (l .inv .1))
 
 pub in-pieces-spec : {M : Type 1} → statement M
 in-pieces-spec =
