@@ -1,7 +1,7 @@
 #!/usr/bin/env bash
 # include/teplovist.h as a program in C sees it: the header compiles as strict C99 and as C++, and tests/c/session.c, linked with the archive of
-# the proved library, compares every number of each sample's description by its name and runs whole sessions. The archive exports what the
-# header declares.
+# the proved library, compares every number of each sample's description by its name, looks at the blocks that are signed and runs whole
+# sessions. The archive exports what the header declares.
 set -eu -o pipefail
 cd "$(dirname "$0")/.."
 bash tests/archive
@@ -25,8 +25,9 @@ grep -oE '^[a-z0-9_]+ teplovist_[a-z0-9_]+\(' include/teplovist.h | sed -E 's/.*
 diff "$folder/declared" "$folder/exported"
 [ -s "$folder/declared" ]
 
-# A header with another index must be found.
-for moved in TEPLOVIST_PRIMARY_OFFSET=6 TEPLOVIST_B=43 TEPLOVIST_SELECTOR=10 TEPLOVIST_IVFC_LEVEL1_LOG=18 TEPLOVIST_DPFS_LEVEL3_LOG=29; do
+# A header with another number must be found.
+for moved in TEPLOVIST_PRIMARY_OFFSET=6 TEPLOVIST_B=43 TEPLOVIST_SELECTOR=10 TEPLOVIST_IVFC_LEVEL1_LOG=18 TEPLOVIST_DPFS_LEVEL3_LOG=29 \
+    TEPLOVIST_SIGNER_KIND=14 TEPLOVIST_DIGEST_TOO_LONG=21; do
     sed -E "s/^( *${moved%=*} = )[0-9]+/\\1${moved#*=}/" include/teplovist.h >"$folder/teplovist.h"
     program "$folder" "$folder/moved"
     if cmp -s include/teplovist.h "$folder/teplovist.h" || "$folder/moved" "${samples[@]}" >"$folder/said"; then
@@ -34,4 +35,4 @@ for moved in TEPLOVIST_PRIMARY_OFFSET=6 TEPLOVIST_B=43 TEPLOVIST_SELECTOR=10 TEP
         exit 1
     fi
 done
-echo 'header: each of 5 other indices was found'
+echo 'header: each of 7 other numbers was found'

@@ -27,6 +27,7 @@ module _ (kind id file folder : ℕ) where
   unfolding signerAs
   is-device e = rw e refl
 
-  pub is-database : (kind ≡ 0 → ⊥) → (kind ≡ 1 → ⊥) → (kind ≡ 2 → ⊥) → (kind ≡ 3 → ⊥) → (kind ≡ 4 → ⊥) → Database (word id) ≡ signerAs kind id file folder
+  pub is-database : (kind ≡ 0 → ⊥) → (kind ≡ 1 → ⊥) → (kind ≡ 2 → ⊥) → (kind ≡ 3 → ⊥) → (kind ≡ 4 → ⊥)
+      → Database (word id) ≡ signerAs kind id file folder
   unfolding signerAs
   is-database a b c d e = rw (ne-eqb kind 0 a, ne-eqb kind 1 b, ne-eqb kind 2 c, ne-eqb kind 3 d, ne-eqb kind 4 e) refl

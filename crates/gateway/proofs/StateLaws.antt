@@ -48,8 +48,8 @@ module _ (s : List ℕ) (at v : ℕ) where
   word-in h b =
       let l : List ℕ = fieldBytes 4 v in
       word-of (sets s at l) at (getD l 0 0) (getD l 1 0) (getD l 2 0) (getD l 3 0) v (byte-in s at l at 0 (omega arith) h (omega arith))
-      (byte-in s at l (at + 1) 1 refl h (omega arith)) (byte-in s at l (at + 2) 2 refl h (omega arith)) (byte-in s at l (at + 2 + 1) 3 (omega arith) h (omega arith))
-      (reads-back 4 v b)
+      (byte-in s at l (at + 1) 1 refl h (omega arith)) (byte-in s at l (at + 2) 2 refl h (omega arith))
+      (byte-in s at l (at + 2 + 1) 3 (omega arith) h (omega arith)) (reads-back 4 v b)
 
   pub count-in : at + 8 ≤ length s → v < 2 ^ 64 → le64 (sets s at (fieldBytes 8 v)) at ≡ v
   unfolding fieldBytes numberOf
@@ -59,7 +59,8 @@ module _ (s : List ℕ) (at v : ℕ) where
       (byte-in s at l at 0 (omega arith) h (omega arith)) (byte-in s at l (at + 1) 1 refl h (omega arith))
       (byte-in s at l (at + 2) 2 refl h (omega arith)) (byte-in s at l (at + 2 + 1) 3 (omega arith) h (omega arith))
       (byte-in s at l (at + 4) 4 refl h (omega arith)) (byte-in s at l (at + 4 + 1) 5 (omega arith) h (omega arith))
-      (byte-in s at l (at + 4 + 2) 6 (omega arith) h (omega arith)) (byte-in s at l (at + 4 + 2 + 1) 7 (omega arith) h (omega arith)) (reads-back 8 v b)
+      (byte-in s at l (at + 4 + 2) 6 (omega arith) h (omega arith)) (byte-in s at l (at + 4 + 2 + 1) 7 (omega arith) h (omega arith))
+      (reads-back 8 v b)
 
 pub word-before : (s : List ℕ) (x : ℕ) (l : List ℕ) (at : ℕ) → at + 4 ≤ x → le32 (sets s x l) at ≡ le32 s at
 unfolding le32 le16
@@ -100,11 +101,14 @@ all-read s hash n w =
     sym (bytes-is (λ (k : ℕ). le32 s (4 * k)) 0 8 hash n (λ k l. ap (λ (j : ℕ). le32 s (4 * j)) (zero-add k) ∙ w k l))
 
 -- words, block and count as the code reads them
-pub read : (state hash rest : List ℕ) (total : ℕ) → length state ≡ 104 → hash ≡ runningOf state .hash → rest ≡ sets (replicate 64 0) 0 (take 64 (drop 32 state))
-    → total ≡ le64 state 96 → _≡_ {A = Running} (record { hash = hash; rest = rest; total = total }) (runningOf state)
+pub read : (state hash rest : List ℕ) (total : ℕ) → length state ≡ 104 → hash ≡ runningOf state .hash
+    → rest ≡ sets (replicate 64 0) 0 (take 64 (drop 32 state)) → total ≡ le64 state 96
+    → _≡_ {A = Running} (record { hash = hash; rest = rest; total = total }) (runningOf state)
 unfolding runningOf
 read state hash rest total n h r t =
-    let block : rest ≡ take 64 (drop 32 state) = r ∙ sets-whole (replicate 64 0) (take 64 (drop 32 state)) (length-part state 32 64 (omega (arith, n)) ∙ sym (length-replicate {A = ℕ} 64 0)) in
+    let size : length (take 64 (drop 32 state)) ≡ length (replicate {A = ℕ} 64 0) =
+    length-part state 32 64 (omega (arith, n)) ∙ sym (length-replicate {A = ℕ} 64 0) in
+    let block : rest ≡ take 64 (drop 32 state) = r ∙ sets-whole (replicate 64 0) (take 64 (drop 32 state)) size in
     λ i. record { hash = h i; rest = block i; total = t i }
 
 -- words, block and count, one after the other, are the digest that they are of
@@ -122,7 +126,8 @@ joined s second third hash rest total n m r b w e f = λ i. record { hash = word
         ∙ ap (λ (t : List ℕ). le32 t (4 * k)) e ∙ word-before s 32 rest (4 * k) (omega arith) ∙ w k l)
 
     own : (k : ℕ) → k < 64 → getD (take 64 (drop 32 third)) k 0 ≡ getD rest k 0
-    own k l = getD-part third 32 64 k l ∙ ap (λ (t : List ℕ). getD t (32 + k) 0) f ∙ sets-out second 96 (fieldBytes 8 total) (32 + k) (inl (omega arith))
+    own k l = getD-part third 32 64 k l ∙ ap (λ (t : List ℕ). getD t (32 + k) 0) f
+        ∙ sets-out second 96 (fieldBytes 8 total) (32 + k) (inl (omega arith))
         ∙ ap (λ (t : List ℕ). getD t (32 + k) 0) e ∙ sets-in s 32 rest k (omega arith) (omega arith)
 
     whole : length third ≡ 104
@@ -143,7 +148,8 @@ never : {A : Type 0} (r : Refusal) → Refused r ≡ Accepted → A
 never r e = absurd (let z : _≡_ {A = ℕ} 0 1 = cc in omega arith)
 
 -- the bytes hold the digest that was fed, also where it was refused
-pub stored : (o : Outcome) (before piece after : List ℕ) (running : Running) → Feeds (runningOf before) piece (record { outcome = o; running = running })
+pub stored : (o : Outcome) (before piece after : List ℕ) (running : Running)
+    → Feeds (runningOf before) piece (record { outcome = o; running = running })
     → StateLeft o running before after → runningOf after ≡ running
 stored Accepted before piece after running feeds e = e
 stored (Refused r) before piece after running feeds e = go (decLt longest (runningOf before .total + length piece))
@@ -158,7 +164,8 @@ fed-bytes {before = before} {piece = piece} {after = after} running fed e f a l 
     let feeds : Feeds (runningOf before) piece fed = subst (λ (r : Running). Feeds r piece fed) e f in
     record { fed = fed; feeds = feeds; outcome = a; stored = stored (fed .outcome) before piece after (fed .running) feeds l; left = l }
 
-pub finished-bytes : {answer : ℕ} {state before after : List ℕ} (running : Running) (finished : Finished) → running ≡ runningOf state → Finishes running finished
-    → answer ≡ outcomeAnswer (finished .outcome) → after ≡ digestKept (finished .outcome) before (finished .digest) → FinishedBytes answer state before after
+pub finished-bytes : {answer : ℕ} {state before after : List ℕ} (running : Running) (finished : Finished) → running ≡ runningOf state
+    → Finishes running finished → answer ≡ outcomeAnswer (finished .outcome) → after ≡ digestKept (finished .outcome) before (finished .digest)
+    → FinishedBytes answer state before after
 finished-bytes running finished e f a l =
     record { finished = finished; finishes = subst (λ (r : Running). Finishes r finished) e f; outcome = a; left = l }
