@@ -6,7 +6,7 @@ use Rattle.steps.specs.declared.Session.{Session}
 use Rattle.layout.specs.declared.Outcome.{Outcome}
 use Rattle.steps.specs.declared.Step.{Step}
 use Rattle.steps.specs.Calls.{After, Stepped}
-use Rattle.gateway.specs.Boundary.{outcomeAnswer, sessionOf, sessionLeft, Called}
+use Rattle.boundary.specs.Boundary.{outcomeAnswer, sessionOf, sessionLeft, Called}
 
 -- the answer of an outcome that is known
 pub answered : {answer : ℕ} {o o' : Outcome} → answer ≡ outcomeAnswer o → o ≡ o' → answer ≡ outcomeAnswer o'

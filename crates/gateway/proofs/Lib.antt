@@ -1,4 +1,1 @@
-pub mod Laws
 pub mod CallLaws
-pub mod SignerLaws
-pub mod StateLaws

@@ -1,21 +1,21 @@
 // The calls for programs in C and other languages, as include/teplovist.h describes them: numbers and bytes go in and out. None asks
 // anything of its caller but pointers that are good.
-use answers::built_answer;
-use answers::count_answer;
-use answers::opened_answer;
-use answers::outcome_answer;
-use answers::verdict_answer;
+use boundary::answers::built_answer;
+use boundary::answers::count_answer;
+use boundary::answers::opened_answer;
+use boundary::answers::outcome_answer;
+use boundary::answers::verdict_answer;
+use boundary::description::description_left;
+use boundary::digests::digest_left;
+use boundary::digests::running_of;
+use boundary::digests::state_bytes;
+use boundary::digests::state_left;
+use boundary::memory::session_left;
+use boundary::memory::session_of;
+use boundary::signers::signer_of;
 use container::blocks;
 use container::reading;
 use container::sessions;
-use description::description_left;
-use digests::digest_left;
-use digests::running_of;
-use digests::state_bytes;
-use digests::state_left;
-use memory::session_left;
-use memory::session_of;
-use signers::signer_of;
 use signing::digests::advance;
 use signing::digests::finish;
 use signing::digests::start;
@@ -24,15 +24,9 @@ ghost use Rattle.layout.specs.Opening.{opened};
 ghost use Rattle.sha256.specs.Running.{stateOf, fresh};
 ghost use Rattle.signing.specs.Calls.{signed, outcomeOf, builtAs, blockLeft, digestLeft};
 ghost use Rattle.steps.specs.Calls as calls;
-ghost use Rattle.gateway.specs.Boundary.{outcomeAnswer, verdictAnswer, countAnswer, openedAnswer, descriptionLeft, sessionOf, sessionLeft, Called};
-ghost use Rattle.gateway.specs.Digests.{runningOf, FedBytes, FinishedBytes};
-ghost use Rattle.gateway.specs.Signers.{signerOf, builtAnswer};
-
-mod answers;
-mod description;
-mod digests;
-mod memory;
-mod signers;
+ghost use Rattle.boundary.specs.Boundary.{outcomeAnswer, verdictAnswer, countAnswer, openedAnswer, descriptionLeft, sessionOf, sessionLeft, Called};
+ghost use Rattle.boundary.specs.Digests.{runningOf, FedBytes, FinishedBytes};
+ghost use Rattle.boundary.specs.Signers.{signerOf, builtAnswer};
 
 // Opens an image and describes it.
 #[no_mangle]

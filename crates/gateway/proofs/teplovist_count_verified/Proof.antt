@@ -1,6 +1,6 @@
 -- The call's contract, through the answer's number.
 use mathlib.Core.Path.{_∙_}
-use Rattle.gateway.specs.Boundary.{countAnswer}
+use Rattle.boundary.specs.Boundary.{countAnswer}
 use borrow.Author.Needs.{needs}
 use Rattle.gateway.proofs.teplovist_count_verified.Statement.{statement}
 use Rattle.gateway.proofs.teplovist_count_verified.Tie as tie

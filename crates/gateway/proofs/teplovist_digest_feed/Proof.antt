@@ -1,5 +1,5 @@
 -- The call's contract, through the digest's bytes and the answer's number. Assumes nothing.
-use Rattle.gateway.proofs.StateLaws.{fed-bytes}
+use Rattle.boundary.proofs.StateLaws.{fed-bytes}
 use borrow.Author.Needs.{needs}
 use Rattle.gateway.proofs.teplovist_digest_feed.Statement.{statement}
 use Rattle.gateway.proofs.teplovist_digest_feed.Tie as tie

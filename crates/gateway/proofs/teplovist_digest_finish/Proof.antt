@@ -1,5 +1,5 @@
 -- The call's contract, through the digest's bytes and the answer's number. Assumes nothing.
-use Rattle.gateway.proofs.StateLaws.{finished-bytes}
+use Rattle.boundary.proofs.StateLaws.{finished-bytes}
 use borrow.Author.Needs.{needs}
 use Rattle.gateway.proofs.teplovist_digest_finish.Statement.{statement}
 use Rattle.gateway.proofs.teplovist_digest_finish.Tie as tie

@@ -1,7 +1,7 @@
 -- The call's contract, through the answer's number.
 use mathlib.Core.Path.{_∙_}
 use denote.Ref.{now}
-use Rattle.gateway.specs.Boundary.{openedAnswer, descriptionLeft}
+use Rattle.boundary.specs.Boundary.{openedAnswer, descriptionLeft}
 use borrow.Author.Needs.{needs}
 use Rattle.gateway.proofs.teplovist_open.Statement.{statement}
 use Rattle.gateway.proofs.teplovist_open.Tie as tie

@@ -2,7 +2,7 @@
 use mathlib.Core.Path.{_∙_}
 use denote.Ref.{now}
 use Rattle.signing.specs.Calls.{signed, builtAs, blockLeft}
-use Rattle.gateway.specs.Signers.{builtAnswer}
+use Rattle.boundary.specs.Signers.{builtAnswer}
 use borrow.Author.Needs.{needs}
 use Rattle.gateway.proofs.teplovist_signing_block.Statement.{statement}
 use Rattle.gateway.proofs.teplovist_signing_block.Tie as tie

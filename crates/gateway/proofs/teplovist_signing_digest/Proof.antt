@@ -2,7 +2,7 @@
 use mathlib.Core.Path.{_∙_}
 use denote.Ref.{now}
 use Rattle.signing.specs.Calls.{signed, outcomeOf, digestLeft}
-use Rattle.gateway.specs.Boundary.{outcomeAnswer}
+use Rattle.boundary.specs.Boundary.{outcomeAnswer}
 use borrow.Author.Needs.{needs}
 use Rattle.gateway.proofs.teplovist_signing_digest.Statement.{statement}
 use Rattle.gateway.proofs.teplovist_signing_digest.Tie as tie

@@ -1,6 +1,6 @@
 -- The call's contract, through the answer's number.
 use mathlib.Core.Path.{_∙_}
-use Rattle.gateway.specs.Boundary.{verdictAnswer}
+use Rattle.boundary.specs.Boundary.{verdictAnswer}
 use borrow.Author.Needs.{needs}
 use Rattle.gateway.proofs.teplovist_verified.Statement.{statement}
 use Rattle.gateway.proofs.teplovist_verified.Tie as tie

@@ -1,0 +1,72 @@
+// What a call answers, as one number: the low 8 bits are the refusal's number, 0 if the call is accepted; the bits above are the value.
+use layout::Opened;
+use layout::Outcome;
+use layout::Refusal;
+use layout::refusals::carried_by;
+use layout::refusals::number_of;
+use signing::Built;
+use steps::Count;
+use steps::Verdict;
+ghost use mathlib.Core.Path.{_≡_};
+ghost use Rattle.boundary.specs.Boundary.{packed, refusedAnswer, outcomeAnswer, verdictAnswer, countAnswer, openedAnswer};
+ghost use Rattle.boundary.specs.Signers.{builtAnswer};
+
+fn pack(number: u64, value: u64) -> u64
+    ensures { λ r. ⌜ r ≡ packed number value ⌝ }
+{
+    number % 0x100 + 0x100 * (value % 0x100_0000_0000_0000)
+}
+
+fn refused_answer(refusal: Refusal) -> u64
+    ensures { λ r. ⌜ r ≡ refusedAnswer refusal ⌝ }
+{
+    pack(number_of(refusal), carried_by(refusal))
+}
+
+pub fn outcome_answer(outcome: Outcome) -> u64
+    ensures { λ r. ⌜ r ≡ outcomeAnswer outcome ⌝ }
+{
+    match outcome {
+        Outcome::Accepted => pack(0, 0),
+        Outcome::Refused(refusal) => refused_answer(refusal),
+    }
+}
+
+// 1 for yes, 0 for no.
+pub fn verdict_answer(verdict: Verdict) -> u64
+    ensures { λ r. ⌜ r ≡ verdictAnswer verdict ⌝ }
+{
+    match verdict {
+        Verdict::Yes => pack(0, 1),
+        Verdict::No => pack(0, 0),
+        Verdict::Refused(refusal) => refused_answer(refusal),
+    }
+}
+
+pub fn count_answer(count: Count) -> u64
+    ensures { λ r. ⌜ r ≡ countAnswer count ⌝ }
+{
+    match count {
+        Count::Blocks(n) => pack(0, n),
+        Count::Refused(refusal) => refused_answer(refusal),
+    }
+}
+
+pub fn opened_answer(answer: Opened) -> u64
+    ensures { λ r. ⌜ r ≡ openedAnswer answer ⌝ }
+{
+    match answer {
+        Opened::Valid(_) => pack(0, 0),
+        Opened::Refused(refusal) => refused_answer(refusal),
+    }
+}
+
+// The block's length.
+pub fn built_answer(built: Built) -> u64
+    ensures { λ r. ⌜ r ≡ builtAnswer built ⌝ }
+{
+    match built {
+        Built::Bytes(n) => pack(0, n),
+        Built::Refused(refusal) => refused_answer(refusal),
+    }
+}
