@@ -1,6 +1,7 @@
 -- Laws of bits: which byte of its word holds one, and what a flip changes. Assumes nothing.
 use mathlib.Core.Path.{_≡_, refl, sym, ap, _∙_}
 use mathlib.Core.Bool.{not}
+use mathlib.Core.List.{List}
 use mathlib.Core.Logic.{_≢_}
 use Prim.Native.Nat.{ℕ, zero, suc, _+_, _-_, _*_, _/_, _%_, _^_, _≤_, _<_}
 use native.Mathlib.Omega.{arith}
@@ -8,6 +9,7 @@ use native.Mathlib.Nat.{div-eq-of-lt, mod-lt, mul-mod-left, div-self, one-mul, d
 use native.Mathlib.Decide.{decLt}
 use lib.Dec.{eqb}
 use lib.Pow.{pow-lt, pow-add, pow-pos, shl-shr, shl-exact, shr-shr}
+use lib.ListN.{getD}
 use lib.Bits.{bitXor, xor-shr, xor-mod, xor-zero-r}
 use Rattle.number.specs.declared.Level.{Level}
 use Rattle.number.specs.Blocks.{blockSize, blockOf}
@@ -154,3 +156,7 @@ flip-code value n = ap (bitXor value) (shl-exact 1 (7 - n % 8) 8 (omega arith) (
 
 pub bit-same : (f g : ℕ → ℕ) (n : ℕ) → f (bitByte n) ≡ g (bitByte n) → bitOf f n ≡ bitOf g n
 bit-same f g n e = bit-in-byte f n ∙ ap (λ (v : ℕ). testBit v (bitPlace n)) e ∙ sym (bit-in-byte g n)
+
+-- the bit as the code fetches it
+pub fetched : (half : List ℕ) (n at : ℕ) → at ≡ bitByte n → testBit (getD half at 0) (bitPlace n) ≡ bitOf (λ (y : ℕ). getD half y 0) n
+fetched half n at e = ap (λ (y : ℕ). testBit (getD half y 0) (bitPlace n)) e ∙ sym (bit-in-byte (λ (y : ℕ). getD half y 0) n)

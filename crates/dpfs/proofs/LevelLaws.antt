@@ -7,13 +7,13 @@ use Prim.Native.Nat.{ℕ, suc, _+_, _-_, _*_, _≤_, _<_}
 use native.Mathlib.Omega.{arith}
 use native.Mathlib.Decide.{ℕ-discrete}
 use native.Mathlib.Nat.{lt-of-lt-of-le}
-use lib.ListN.{length, getD, length-set}
+use lib.ListN.{length, getD, take, drop, length-set}
 use lib.Seq.{getD-set-same, getD-set-other}
 use Rattle.number.specs.declared.Level.{Level}
 use Rattle.number.specs.Blocks.{blockSize, blocks, blockOf, blockLength}
 use Rattle.number.specs.Frame.{Keeps}
 use Rattle.number.proofs.FrameLaws.{keeps-copied}
-use Rattle.number.proofs.ListLaws.{length-copied, copied-in, copied-out}
+use Rattle.number.proofs.ListLaws.{getD-part, length-part, length-copied, copied-in, copied-out}
 use Rattle.number.proofs.BlockLaws.{block-exists, block-starts, block-ends, block-byte}
 use Rattle.dpfs.specs.declared.Tree.{Tree}
 use Rattle.dpfs.specs.Bits.{bitByte, bitPlace, testBit, flipBit, bitOf}
@@ -50,6 +50,28 @@ place-add l second y z = omega arith
 pub place-from : (l : Level) (second : Bool) (y : ℕ) → place l second y ≡ place l second 0 + y
 unfolding place
 place-from l second y = omega arith
+
+-- a half lies in the pair
+pub half-inside : (l : Level) (second : Bool) → place l second 0 + l .size ≤ l .offset + 2 * l .size
+unfolding place
+half-inside l true = omega arith
+half-inside l false = omega arith
+
+pub half-length : (l : Level) (second : Bool) (image half : List ℕ) → half ≡ take (l .size) (drop (place l second 0) image)
+    → l .offset + 2 * l .size ≤ length image → length half ≡ l .size
+half-length l second image half e h = ap length e ∙ length-part image (place l second 0) (l .size) (omega (arith, half-inside l second))
+
+-- the half as the code takes it
+pub half-taken : (image : List ℕ) (start size p : ℕ) → start ≡ p → take (start + size - start) (drop start image) ≡ take size (drop p image)
+half-taken image start size p e =
+    let n : start + size - start ≡ size = omega arith in
+    rw n (ap (λ (i : ℕ). take size (drop i image)) e)
+
+-- a byte of a half that was taken out of the image
+pub half-byte : (l : Level) (second : Bool) (image half : List ℕ) (y : ℕ) → half ≡ take (l .size) (drop (place l second 0) image) → y < l .size
+    → getD half y 0 ≡ getD image (place l second y) 0
+half-byte l second image half y e h =
+    ap (λ (s : List ℕ). getD s y 0) e ∙ getD-part image (place l second 0) (l .size) y h ∙ ap (λ (i : ℕ). getD image i 0) (sym (place-from l second y))
 
 pub place-suc : (l : Level) (second : Bool) (y : ℕ) → place l second (suc y) ≡ suc (place l second y)
 unfolding place

@@ -6,6 +6,7 @@ use super::bits::bit_place;
 use super::bits::byte_of_bit;
 use super::bits::copy2;
 use super::bits::copy3;
+use super::bits::flipped;
 use super::bits::place_of;
 use super::reading::block_end;
 use number::Level;
@@ -77,9 +78,8 @@ fn flip_bit(space: Space, image: &mut [u8], at: u64, n: u64)
     ensures { λ _. ⌜ now (image .exit) ≡ set (now (image .entry)) at (flipBit (getD (now (image .entry)) at 0) (bitPlace n)) ⌝ }
 {
     let i = at as usize;
-    let k = 7 - n % 8;
     let value = image[i];
-    store(space, image, at, value ^ (1u8 << k));
+    store(space, image, at, flipped(value, n));
 }
 
 // Copies block b of a level whole, from one half to the other, whose copy is free.
