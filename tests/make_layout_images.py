@@ -150,6 +150,7 @@ CASES = [
     ("0 DIFF 1 1", flipped(image("DIFF"), 0x200 + DESCRIPTOR)),  # the inactive table may hold anything
     ("0 DIFF 1 1", diff(MANY_BLOCKS, MANY_BLOCKS_PARTITION)),
     ("0 DIFF 1 1", diff(TWO_BLOCKS, TWO_BLOCKS_PARTITION)),
+    ("0 DIFF 1 1", diff({"ivfc/1.log": 2**32 + 5, "ivfc/4.log": LARGEST - 2**32 + 7, "dpfs/2.log": 2**63 + 2, "dpfs/3.log": 2**40 + 5})),  # leftovers after logarithms
     ("0 DIFF 1 1", image("DIFF", TWO_ENTRIES_HEADER, TWO_ENTRIES, length=0x200 + 2 * TWO_ENTRIES_TABLE + PARTITION)),
     # 1: the length.
     ("1", b""),
@@ -188,7 +189,7 @@ CASES = [
     ("6", diff({"ivfc/master.size": 0x40})),
     ("6", diff({"selector": 2})),
     ("6", diff({"ivfc/4.log": 17})),
-    ("6", diff({"ivfc/1.log": 2**32 + 5})),  # eight bytes are read
+    ("6", diff({"ivfc/1.log": 2**32 + 4})),  # four bytes are read: 4, whatever follows
     ("6", diff({"dpfs/2.log": 1})),
     ("6", diff({"dpfs/1.size": 6})),
     ("6", diff({"ivfc/3.size": 48})),

@@ -65,7 +65,7 @@ pub struct Level {
 
 impl Level {
     fn at(bytes: &[u8], place: usize) -> Level {
-        Level { extent: Extent::at(bytes, place), log: number(bytes, place + 16) }
+        Level { extent: Extent::at(bytes, place), log: short_number(bytes, place + 16) }
     }
 
     fn blocks(self) -> u64 {

@@ -4,3 +4,4 @@ pub mod TableLaws
 pub mod PartitionLaws
 pub mod GuaranteeLaws
 pub mod FrameLaws
+pub mod LogLaws

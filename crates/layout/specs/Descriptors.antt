@@ -6,7 +6,7 @@ use lib.ListN.{getD, length}
 use lib.Dec.{leb, eqb}
 use Rattle.number.specs.declared.Range.{Range}
 use Rattle.number.specs.declared.Level.{Level}
-use Rattle.number.specs.Fields.{le64}
+use Rattle.number.specs.Fields.{le32, le64}
 use Rattle.number.specs.Ranges.{inside, placed, twice, part, levelRange}
 use Rattle.number.specs.Blocks.{blocks}
 use Rattle.layout.specs.Limits.{difiSize, ivfcSize, dpfsSize, masterAllowed, leastLog, leastBitsLog, mostLog, wordSize, entrySize}
@@ -23,9 +23,9 @@ use Rattle.layout.specs.declared.JudgedPartition.the-variants.{GoodParti
 
 -- ---- the fields
 
--- each block-size logarithm is read as eight bytes
+-- each block-size logarithm has four bytes; the four after it are padding (02, W4)
 abbrev pub logAt : List ℕ → ℕ → ℕ
-logAt s at = le64 s at
+logAt s at = le32 s at
 
 -- a level: offset, size, logarithm
 abbrev pub levelAt : List ℕ → ℕ → Level

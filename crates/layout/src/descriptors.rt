@@ -11,6 +11,7 @@ use number::Level;
 use number::Range;
 use number::blocks::block_count;
 use number::fields::byte;
+use number::fields::field4;
 use number::fields::field8;
 use number::ranges::four_placed;
 use number::ranges::lies_inside;
@@ -45,12 +46,12 @@ const WORD_SIZE: u64 = 4;
 
 const ENTRY_SIZE: u64 = 32;
 
-// A block-size logarithm: eight bytes.
+// A block-size logarithm: four bytes. The four after them are padding.
 fn log_at(s: &[u8], at: usize) -> u64
     requires { ⌜ at + 8 < 2 ^ 64 ⌝ }
     ensures { λ r. ⌜ r ≡ logAt (now (s .entry)) at ⌝ }
 {
-    field8(s, at)
+    field4(s, at) as u64
 }
 
 // Offset, size and logarithm of a level.

@@ -3,6 +3,7 @@
 
 use outside::description::Description;
 use outside::rules::compression::{compress, Digest};
+use outside::rules::descriptor::IVFC_LEVELS;
 use outside::rules::dpfs::View;
 use outside::rules::header::LONGEST_IMAGE;
 use outside::rules::opening::open;
@@ -60,6 +61,7 @@ enum Fault {
     InventsCount,
     SaysYes,
     ForgetsFlag,
+    RefusesLeftovers,
     BeginWritesMore,
     WriteDoesNothing,
     WritesLiveCopy,
@@ -89,13 +91,14 @@ enum Fault {
     ForgetsWaiting,
 }
 
-const FAULTS: [Fault; 33] = [
+const FAULTS: [Fault; 34] = [
     Fault::RefusesEverything,
     Fault::ReadsZeros,
     Fault::FillsBufferOnRefusal,
     Fault::InventsCount,
     Fault::SaysYes,
     Fault::ForgetsFlag,
+    Fault::RefusesLeftovers,
     Fault::BeginWritesMore,
     Fault::WriteDoesNothing,
     Fault::WritesLiveCopy,
@@ -130,9 +133,14 @@ struct Faulty(Fault);
 
 impl Subject for Faulty {
     fn open(&self, image: &[u8], description: &mut Description) -> u64 {
+        let untouched = *description;
         let answer = Rules.open(image, description);
         if self.0 == Fault::RefusesEverything && answer == 0 {
             return 4;
+        }
+        if self.0 == Fault::RefusesLeftovers && answer == 0 && has_leftovers(image) {
+            *description = untouched;
+            return 6;
         }
         if self.0 == Fault::ForgetsFlag && answer == 0 {
             description[2] = 0;
@@ -320,6 +328,15 @@ fn padded_with_leftovers(value: &Running, state: &RunningBytes) -> Digest {
     last[56..].copy_from_slice(&(8 * value.total).to_be_bytes());
     let words = compress(value.hash, &last);
     std::array::from_fn(|place| words[place / 4].to_be_bytes()[place % 4])
+}
+
+/// Would a logarithm of A's IVFC be another number if it had eight bytes?
+fn has_leftovers(image: &[u8]) -> bool {
+    let opened = open(image).expect("it has opened");
+    let partition = &opened.partitions[0];
+    let table = opened.header.active_table().offset + partition.place.descriptor.offset;
+    let ivfc = (table + partition.descriptor.ivfc.offset) as usize;
+    IVFC_LEVELS.iter().any(|place| image[ivfc + place + 20..ivfc + place + 24] != [0; 4])
 }
 
 /// Every entry of the staged master hash that a write has changed goes to the first entry's place instead.

@@ -1,10 +1,33 @@
 //! Generated images: opening says what they were built from, and the committed view is what was put in.
 
+use outside::generate::contents::{put, put_table_hash};
 use outside::generate::random::Random;
 use outside::generate::shape::Wanted;
-use outside::generate::valid_image;
+use outside::generate::{valid_image, Sample};
+use outside::rules::descriptor::{DPFS_LEVELS, IVFC_LEVELS};
 use outside::rules::dpfs::View;
 use outside::rules::opening::open;
+
+/// The four bytes behind each logarithm may hold anything.
+#[test]
+fn leftovers_behind_logarithms() {
+    for seed in 0..300 {
+        let random = &mut Random::new(seed);
+        let Sample { mut image, opened, .. } = valid_image(random, &Wanted::default());
+        let table = opened.header.active_table();
+        for partition in &opened.partitions {
+            let descriptor = &partition.descriptor;
+            let start = table.offset + partition.place.descriptor.offset;
+            let ivfc = IVFC_LEVELS.map(|place| start + descriptor.ivfc.offset + place as u128);
+            let dpfs = DPFS_LEVELS.map(|place| start + descriptor.dpfs.offset + place as u128);
+            for level in ivfc.iter().chain(&dpfs) {
+                put(&mut image, *level as usize + 0x14, &random.bytes(4));
+            }
+        }
+        put_table_hash(&mut image, &opened);
+        assert_eq!(open(&image), Ok(opened), "seed {seed}");
+    }
+}
 
 #[test]
 fn opening_and_views_agree_with_the_builder() {

@@ -20,7 +20,7 @@ pub fn build(random: &mut Random, wanted: &Wanted, opened: Opened, length: usize
     let mut versions = Vec::new();
     for partition in &opened.partitions {
         let (version, master) = fill_partition(random, wanted, &mut image, partition);
-        put_descriptor(random, &mut table, partition, &master);
+        put_descriptor(random, wanted, &mut table, partition, &master);
         versions.push(version);
     }
     let active = opened.header.active_table().offset as usize;
@@ -42,9 +42,21 @@ fn put_extent(bytes: &mut [u8], place: usize, offset: u128, size: u128) {
     put(bytes, place + 8, &(size as u64).to_le_bytes());
 }
 
-fn put_level(bytes: &mut [u8], place: usize, level: Level) {
+/// Behind the logarithm stands what was there, unless leftovers are not wanted. Left to chance, it is nothing or
+/// another logarithm now and then.
+fn put_level(random: &mut Random, wanted: &Wanted, bytes: &mut [u8], place: usize, level: Level) {
     put_extent(bytes, place, level.extent.offset, level.extent.size);
-    put(bytes, place + 16, &level.log.to_le_bytes());
+    put(bytes, place + 16, &(level.log as u32).to_le_bytes());
+    let padding = match wanted.leftovers {
+        Some(true) => return,
+        Some(false) => 0,
+        None => match random.below(4) {
+            0 => 0,
+            1 => random.between(5, 16) as u32,
+            _ => return,
+        },
+    };
+    put(bytes, place + 20, &padding.to_le_bytes());
 }
 
 /// Now and then all bits of level 1 and level 2 are equal instead of noise.
@@ -60,7 +72,7 @@ fn even_out_bits(random: &mut Random, image: &mut [u8], opened: &Opened) {
 }
 
 /// Writes the fields of a descriptor; padding keeps its noise, and so do fields that are not read.
-fn put_descriptor(random: &mut Random, table: &mut [u8], partition: &Partition, master: &[u8]) {
+fn put_descriptor(random: &mut Random, wanted: &Wanted, table: &mut [u8], partition: &Partition, master: &[u8]) {
     let descriptor = &partition.descriptor;
     let bytes = &mut table[partition.place.descriptor.offset as usize..];
     put(bytes, 0, DIFI_OPENING);
@@ -80,7 +92,7 @@ fn put_descriptor(random: &mut Random, table: &mut [u8], partition: &Partition, 
     put(ivfc, 0, IVFC_OPENING);
     put(ivfc, 8, &(descriptor.master.size as u64).to_le_bytes());
     for (place, level) in IVFC_LEVELS.into_iter().zip(descriptor.hash_levels) {
-        put_level(ivfc, place, level);
+        put_level(random, wanted, ivfc, place, level);
     }
     if descriptor.external.is_some() {
         let unread = random.bytes(8);
@@ -90,8 +102,8 @@ fn put_descriptor(random: &mut Random, table: &mut [u8], partition: &Partition, 
     let dpfs = &mut bytes[descriptor.dpfs.offset as usize..];
     put(dpfs, 0, DPFS_OPENING);
     put_extent(dpfs, DPFS_LEVELS[0], descriptor.level1.offset, descriptor.level1.size);
-    put_level(dpfs, DPFS_LEVELS[1], descriptor.level2);
-    put_level(dpfs, DPFS_LEVELS[2], descriptor.level3);
+    put_level(random, wanted, dpfs, DPFS_LEVELS[1], descriptor.level2);
+    put_level(random, wanted, dpfs, DPFS_LEVELS[2], descriptor.level3);
     put(bytes, descriptor.master.offset as usize, master);
 }
 

@@ -237,11 +237,12 @@ fn other_than(random: &mut Random, all: &[u64], allowed: impl Fn(u64) -> bool) -
 
 /// A logarithm outside `lowest` to 16: half of the time right at a limit, else far away, among them ones whose low
 /// bytes are allowed.
-fn bad_log(random: &mut Random, lowest: u64) -> u64 {
+fn bad_log(random: &mut Random, lowest: u32) -> u32 {
     if random.chance(50) {
         return random.pick(&[lowest - 1, 17]);
     }
-    random.pick(&[0, 1, 31, 32, 63, 64, 255, 256 + lowest, (1 << 32) + lowest, HALF_RANGE + 8, HALF_RANGE, u64::MAX])
+    let low_byte_allowed = [256 + lowest, (1 << 16) + lowest, (1 << 24) + 16, (1 << 31) + 8];
+    random.pick(&[&low_byte_allowed[..], &[0, 1, 31, 32, 63, 64, 255, 1 << 31, u32::MAX]].concat())
 }
 
 /// A size that is no multiple of `unit`, near the right one or far away.
@@ -558,16 +559,7 @@ pub const DAMAGES: &[Damage] = &[
         apply: |random, patient| {
             let level = random.between(1, 4) as usize;
             let log = bad_log(random, 5);
-            patient.set(patient.ivfc_level(level)[2], log)
-        },
-    },
-    Damage {
-        name: "IVFC logarithm's upper four bytes",
-        number: 6,
-        apply: |random, patient| {
-            let level = random.between(1, 4) as usize;
-            let log = patient.hash_level(level).log | 1 << random.between(32, 63);
-            patient.set(patient.ivfc_level(level)[2], log)
+            patient.store(patient.ivfc_level(level)[2], &log.to_le_bytes())
         },
     },
     Damage {
@@ -576,7 +568,19 @@ pub const DAMAGES: &[Damage] = &[
         apply: |random, patient| {
             let (level, lowest) = random.pick(&[(2, 2), (3, 5)]);
             let log = bad_log(random, lowest);
-            patient.set(patient.dpfs_level(level)[2], log)
+            patient.store(patient.dpfs_level(level)[2], &log.to_le_bytes())
+        },
+    },
+    Damage {
+        name: "an allowed logarithm in the padding behind a wrong one",
+        number: 6,
+        apply: |random, patient| {
+            let ivfc = [1, 2, 3, 4].map(|level| patient.ivfc_level(level)[2]);
+            let dpfs = [2, 3].map(|level| patient.dpfs_level(level)[2]);
+            let position = random.pick(&[&ivfc[..], &dpfs].concat());
+            let allowed = number(&patient.image, position, 4) as u32;
+            let wrong = random.pick(&[0, 17, 1 << 31]);
+            patient.store(position, &[u32::to_le_bytes(wrong), u32::to_le_bytes(allowed)].concat())
         },
     },
     Damage {
@@ -892,7 +896,7 @@ pub const DAMAGES: &[Damage] = &[
         number: 7,
         apply: |_, patient| {
             let too_few = patient.hash_level(1).extent.size > patient.partition().descriptor.master.size;
-            too_few && patient.set(patient.ivfc_level(1)[2], 5)
+            too_few && patient.store(patient.ivfc_level(1)[2], &5u32.to_le_bytes())
         },
     },
     Damage {

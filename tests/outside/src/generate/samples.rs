@@ -7,8 +7,8 @@ use crate::rules::header::Kind;
 
 /// Name and bytes of each sample.
 pub fn samples() -> Vec<(&'static str, Vec<u8>)> {
-    let tight = Wanted { flag: Some(1), external: Some(false), tight: true, all_verified: true, ..Wanted::default() };
-    let loose = Wanted { external: Some(false), master_entries: Some(1), ..Wanted::default() };
+    let loose = Wanted { external: Some(false), master_entries: Some(1), leftovers: Some(false), ..Wanted::default() };
+    let tight = Wanted { flag: Some(1), tight: true, all_verified: true, ..loose.clone() };
     let wanted = [
         ("disa-one.img", Wanted { kind: Some(Kind::Disa), count: Some(1), data: Some((4096, 12)), ..tight }),
         (
@@ -18,6 +18,7 @@ pub fn samples() -> Vec<(&'static str, Vec<u8>)> {
                 flag: Some(0),
                 data: Some((2500, 9)),
                 all_verified: true,
+                leftovers: Some(true),
                 ..loose.clone()
             },
         ),

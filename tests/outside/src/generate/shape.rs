@@ -19,6 +19,8 @@ pub struct Wanted {
     pub table_size: Option<u64>,
     /// How many entries the master hash has.
     pub master_entries: Option<u64>,
+    /// Leftovers in the padding behind each logarithm.
+    pub leftovers: Option<bool>,
     /// Up to so many spare entries and spare words of bits.
     pub spare: Option<u64>,
     /// As small as can be: no gaps, no spare entries, everything in the printed order.

@@ -31,8 +31,9 @@ pub struct Level {
 }
 
 impl Level {
+    /// The logarithm has four bytes; the four behind it are padding.
     fn at(bytes: &[u8], place: usize) -> Level {
-        Level { extent: extent_at(bytes, place), log: number(bytes, place + 16, 8) }
+        Level { extent: extent_at(bytes, place), log: number(bytes, place + 16, 4) }
     }
 
     pub fn block_size(self) -> u128 {
