@@ -143,16 +143,16 @@ static void expect_difi(size_t base, const struct slot *slot, const uint8_t *dif
 static void expect_ivfc(size_t base, int external, const uint8_t *ivfc) {
     PARTITION_NUMBER(TEPLOVIST_IVFC_LEVEL1_OFFSET, field(ivfc, 0x10, 8));
     PARTITION_NUMBER(TEPLOVIST_IVFC_LEVEL1_SIZE, field(ivfc, 0x18, 8));
-    PARTITION_NUMBER(TEPLOVIST_IVFC_LEVEL1_LOG, field(ivfc, 0x20, 8));
+    PARTITION_NUMBER(TEPLOVIST_IVFC_LEVEL1_LOG, field(ivfc, 0x20, 4));
     PARTITION_NUMBER(TEPLOVIST_IVFC_LEVEL2_OFFSET, field(ivfc, 0x28, 8));
     PARTITION_NUMBER(TEPLOVIST_IVFC_LEVEL2_SIZE, field(ivfc, 0x30, 8));
-    PARTITION_NUMBER(TEPLOVIST_IVFC_LEVEL2_LOG, field(ivfc, 0x38, 8));
+    PARTITION_NUMBER(TEPLOVIST_IVFC_LEVEL2_LOG, field(ivfc, 0x38, 4));
     PARTITION_NUMBER(TEPLOVIST_IVFC_LEVEL3_OFFSET, field(ivfc, 0x40, 8));
     PARTITION_NUMBER(TEPLOVIST_IVFC_LEVEL3_SIZE, field(ivfc, 0x48, 8));
-    PARTITION_NUMBER(TEPLOVIST_IVFC_LEVEL3_LOG, field(ivfc, 0x50, 8));
+    PARTITION_NUMBER(TEPLOVIST_IVFC_LEVEL3_LOG, field(ivfc, 0x50, 4));
     PARTITION_NUMBER(TEPLOVIST_IVFC_LEVEL4_OFFSET, external ? 0 : field(ivfc, 0x58, 8));
     PARTITION_NUMBER(TEPLOVIST_IVFC_LEVEL4_SIZE, field(ivfc, 0x60, 8));
-    PARTITION_NUMBER(TEPLOVIST_IVFC_LEVEL4_LOG, field(ivfc, 0x68, 8));
+    PARTITION_NUMBER(TEPLOVIST_IVFC_LEVEL4_LOG, field(ivfc, 0x68, 4));
 }
 
 static void expect_dpfs(size_t base, const uint8_t *dpfs) {
@@ -160,10 +160,10 @@ static void expect_dpfs(size_t base, const uint8_t *dpfs) {
     PARTITION_NUMBER(TEPLOVIST_DPFS_LEVEL1_SIZE, field(dpfs, 0x10, 8));
     PARTITION_NUMBER(TEPLOVIST_DPFS_LEVEL2_OFFSET, field(dpfs, 0x20, 8));
     PARTITION_NUMBER(TEPLOVIST_DPFS_LEVEL2_SIZE, field(dpfs, 0x28, 8));
-    PARTITION_NUMBER(TEPLOVIST_DPFS_LEVEL2_LOG, field(dpfs, 0x30, 8));
+    PARTITION_NUMBER(TEPLOVIST_DPFS_LEVEL2_LOG, field(dpfs, 0x30, 4));
     PARTITION_NUMBER(TEPLOVIST_DPFS_LEVEL3_OFFSET, field(dpfs, 0x38, 8));
     PARTITION_NUMBER(TEPLOVIST_DPFS_LEVEL3_SIZE, field(dpfs, 0x40, 8));
-    PARTITION_NUMBER(TEPLOVIST_DPFS_LEVEL3_LOG, field(dpfs, 0x48, 8));
+    PARTITION_NUMBER(TEPLOVIST_DPFS_LEVEL3_LOG, field(dpfs, 0x48, 4));
 }
 
 /* Opens the image and compares all 80 numbers: by name, or with 0 where no name has the index. */
