@@ -87,7 +87,7 @@ enum {
     TEPLOVIST_DPFS_OFFSET = 6,
     TEPLOVIST_DPFS_SIZE = 7,
     TEPLOVIST_MASTER_HASH_OFFSET = 8,
-    TEPLOVIST_MASTER_HASH_SIZE = 9,
+    TEPLOVIST_MASTER_HASH_SIZE = 9, /* 32 bytes for each of its 1 to 64 entries */
     TEPLOVIST_EXTERNAL = 10,        /* 1 if level 4 is external, else 0 */
     TEPLOVIST_SELECTOR = 11,        /* the half of DPFS level 1 that is live */
     TEPLOVIST_EXTERNAL_OFFSET = 12, /* from the partition's start; 0 unless external */
