@@ -1,10 +1,10 @@
 // Lists of calls: the model that they follow, and the theorem that they do. Definitions and proofs; the one function asks for the theorem.
 //
-// Wrong libraries that each theorem excludes, tried as edits in must-fail/ (a wrong definition of a call is refused in steps already, so that they
-// change what a call is performed by, or what is claimed of it):
-// - history: begin_stages_nothing, commit_lands_nothing, commit_keeps_staged, abandon_keeps_staged, committed_read_of_staged, staged_read_of_committed,
-//   staged_read_while_idle, untouched_block_refused, write_to_any_partition;
-// - crash: every_byte_free, write_lands_at_once, begin_lands_at_once; sparing: the last two;
+// Wrong models and claims that each theorem excludes, tried as edits in must-fail/. There is no program here to edit: a wrong program of a call is
+// refused in views, dpfs, update, steps and container already.
+// - history: begin_stages_nothing, commit_lands_nothing, commit_keeps_staged, abandon_keeps_staged, staged_read_while_idle,
+//   untouched_block_refused, write_to_any_partition;
+// - crash: every_byte_free;
 // - landing: first_value_wins, write_marks_nothing.
 ghost use Rattle.history.specs.Theorem.{Demand3};
 
