@@ -1,0 +1,121 @@
+-- The steps of AES-CMAC as the code takes them. Assumes nothing.
+use mathlib.Core.Path.{_≡_, refl, sym, ap, ap₂, _∙_}
+use mathlib.Core.Bool.{not, _&&_}
+use mathlib.Core.List.{List, [], _∷_, _++_, append-assoc, append-nil}
+use Prim.Native.Nat.{ℕ, suc, _+_, _-_, _*_, _/_, _%_, _^_, _<_, _≤_, min, max}
+use native.Mathlib.Omega.{arith}
+use native.Mathlib.Numerals.{add-one}
+use native.Mathlib.Decide.{ℕ-discrete, decLt}
+use lib.Bits.{xor-zero-r}
+use borrow.Author.Tests.{eq-eqb, ne-eqb, le-leb, lt-leb}
+use lib.Dec.{eqb}
+use lib.ListN.{length, getD, set, take, drop, replicate, length-take, length-drop, List·getD-eq-default}
+use lib.Seq.{set-at, take-suc, take-length, take-all, length-take-le}
+use Rattle.aes.specs.Field.{_⊕_}
+use Rattle.aes.specs.Aes.{xor, aes128}
+use Rattle.cmac.specs.Cmac.{shifted, doubled, K1, padding, number, flag, blockOf, lastBlock, chained, cmac}
+
+-- ---- the shift: byte i of the shifted block
+
+abbrev pub shiftedByte : List ℕ → ℕ → ℕ
+shiftedByte x i = getD x i 0 * 2 % 256 + getD x (i + 1) 0 / 128
+
+pub last-byte : (x : List ℕ) → length x ≡ 16 → getD x 15 0 * 2 % 256 + 0 / 128 ≡ shiftedByte x 15
+last-byte x h =
+    let e : getD x 16 0 ≡ 0 = List·getD-eq-default x 0 (omega arith) in
+    ap (λ (b : ℕ). getD x 15 0 * 2 % 256 + b / 128) (sym e)
+
+-- ---- a part of a block, filled with zeros
+
+-- after a part p of a block that is zero past it, one byte more
+zero-set : (p : List ℕ) (i v : ℕ) → length p ≡ i → i < 16 → set (p ++ replicate (16 - i) 0) i v ≡ p ++ v ∷ replicate (15 - i) 0
+zero-set p i v l h =
+    let n : 16 - i ≡ suc (15 - i) = omega arith in
+    rw n (set-at p 0 (replicate (15 - i) 0) v i l)
+
+pub fill-more : (t b : List ℕ) (i v : ℕ) → i < length t → length t ≤ 16 → b ≡ take i t ++ replicate (16 - i) 0 → v ≡ getD t i 0
+    → set b i v ≡ take (i + 1) t ++ replicate (16 - (i + 1)) 0
+fill-more t b i v h l e ev =
+    let n : 16 - (i + 1) ≡ 15 - i = omega arith in
+    let s : set (take i t ++ replicate (16 - i) 0) i v ≡ take i t ++ v ∷ replicate (15 - i) 0 = zero-set (take i t) i v (length-take-le i t (omega arith)) (omega arith) in
+    rw (e, s, n, add-one, take-suc t i 0, ev) (sym (append-assoc (take i t) (getD t i 0 ∷ []) (replicate (15 - i) 0)))
+
+pub fill-done : (t b : List ℕ) (i : ℕ) → i ≡ length t → b ≡ take i t ++ replicate (16 - i) 0 → b ≡ t ++ replicate (16 - length t) 0
+fill-done t b i e eb = rw (eb, e, take-length t)
+
+pub pad-done : (t b : List ℕ) → length t < 16 → b ≡ t ++ replicate (16 - length t) 0 → set b (length t) 0x80 ≡ padding t
+unfolding padding
+pad-done t b l e = rw e (zero-set t (length t) 0x80 refl l)
+
+pub fill-whole : (t b : List ℕ) → length t ≡ 16 → b ≡ t ++ replicate (16 - length t) 0 → b ≡ t
+fill-whole t b l e = rw l at e ∙ append-nil t
+
+-- ---- the subkeys and the last block
+
+-- what the last byte r of a subkey is, by the first bit of the block a
+pub reduced-no : (l a : ℕ) → a < 128 → l ⊕ (a / 2 ^ 7 * 0x87) ≡ l
+reduced-no l a h =
+    let e : a / 2 ^ 7 ≡ 0 = omega arith in
+    rw e (xor-zero-r l)
+
+pub reduced-yes : (l a : ℕ) → a < 256 → 128 ≤ a → l ⊕ (a / 2 ^ 7 * 0x87) ≡ l ⊕ 0x87
+reduced-yes l a b h =
+    let e : a / 2 ^ 7 ≡ 1 = omega arith in
+    rw e
+
+pub doubling : (x s : List ℕ) (r : ℕ) → s ≡ shifted x
+    → (getD x 0 0 < 128 → r ≡ getD s 15 0) × (128 ≤ getD x 0 0 → r ≡ getD s 15 0 ⊕ 0x87) → set s 15 r ≡ doubled x
+unfolding shifted doubled
+doubling x s r e h = go (decLt (getD x 0 0) 128)
+  where
+    go : Dec (getD x 0 0 < 128) → set s 15 r ≡ doubled x
+    go (yes p) = rw (h .0 p, e, lt-leb 128 (getD x 0 0) p)
+    go (no p) =
+        let l : 128 ≤ getD x 0 0 = omega arith in
+        rw (h .1 l, e, le-leb 128 (getD x 0 0) l) (simp xor-zero-r)
+
+module _ (key t k b : List ℕ) (e : k ≡ K1 key) where
+  pub last-whole : (r : List ℕ) → length t ≡ 16 → b ≡ t ++ replicate (16 - length t) 0 → r ≡ xor b k → r ≡ lastBlock key (eqb (length t) 16) t
+  unfolding lastBlock
+  last-whole r h f g = rw (eq-eqb (length t) 16 h) (g ∙ ap₂ xor (fill-whole t b h f) e)
+
+  pub last-part : (k′ r : List ℕ) → (length t ≡ 16 → ⊥) → b ≡ padding t → k′ ≡ doubled k → r ≡ xor b k′ → r ≡ lastBlock key (eqb (length t) 16) t
+  unfolding lastBlock
+  last-part k′ r h f d g = rw (ne-eqb (length t) 16 h) (g ∙ ap₂ xor f (d ∙ ap doubled e))
+
+-- ---- the blocks before the last
+
+pub part-length : (m : List ℕ) (i : ℕ) → i * 16 + 16 ≤ length m → length (take (i * 16 + 16 - i * 16) (drop (i * 16) m)) ≡ 16
+part-length m i h = simp (length-take, length-drop) (omega arith)
+
+pub chain-more : (key m x b y z : List ℕ) (i : ℕ) → i * 16 + 16 ≤ length m → x ≡ chained key m i
+    → b ≡ take (i * 16 + 16 - i * 16) (drop (i * 16) m) ++ replicate (16 - length (take (i * 16 + 16 - i * 16) (drop (i * 16) m))) 0
+    → y ≡ xor x b → z ≡ aes128 key y → z ≡ chained key m (i + 1)
+unfolding chained
+chain-more key m x b y z i h ex eb ey ez =
+    let n : i * 16 + 16 - i * 16 ≡ 16 = omega arith in
+    let w : b ≡ blockOf m i = fill-whole _ b (part-length m i h) eb ∙ ap (λ (k : ℕ). take k (drop (i * 16) m)) n in
+    rw add-one (ez ∙ ap (aes128 key) (ey ∙ ap₂ xor ex w))
+
+-- ---- the end
+
+-- the last block is whole exactly if its length says so
+whole : (L n k : ℕ) → n ≡ max 1 ((L + 15) / 16) - 1 → k ≡ min 16 (L - n * 16) → not (eqb L 0) && eqb (L % 16) 0 ≡ eqb k 16
+whole L n k en ek = go (ℕ-discrete L 0) (ℕ-discrete (L % 16) 0)
+  where
+    go : Dec (L ≡ 0) → Dec (L % 16 ≡ 0) → not (eqb L 0) && eqb (L % 16) 0 ≡ eqb k 16
+    go (yes p) d = rw (eq-eqb L 0 p, ne-eqb k 16 (λ q. omega arith))
+    go (no p) (yes q) = rw (ne-eqb L 0 p, eq-eqb (L % 16) 0 q, eq-eqb k 16 (omega arith))
+    go (no p) (no q) = rw (ne-eqb L 0 p, ne-eqb (L % 16) 0 q, ne-eqb k 16 (λ z. omega arith))
+
+pub cmac-end : (key m x l y r : List ℕ) (n : ℕ) → n ≡ number m - 1 → x ≡ chained key m n
+    → l ≡ lastBlock key (eqb (length (take (length m - n * 16) (drop (n * 16) m))) 16) (take (length m - n * 16) (drop (n * 16) m))
+    → y ≡ xor l x → r ≡ aes128 key y → r ≡ cmac key m
+unfolding cmac
+cmac-end key m x l y r n en ex el ey er =
+    let t : take (length m - n * 16) (drop (n * 16) m) ≡ blockOf m n =
+    take-all (length m - n * 16) (drop (n * 16) m) (simp length-drop (omega arith))
+    ∙ sym (take-all 16 (drop (n * 16) m) (simp length-drop (omega arith))) in
+    let f : flag m ≡ eqb (length (blockOf m n)) 16 = whole (length m) n (length (blockOf m n)) en (simp (length-take, length-drop)) in
+    let w : l ≡ lastBlock key (flag m) (blockOf m n) = rw (f, ← t) el in
+    rw (← en) (er ∙ ap (aes128 key) (ey ∙ ap₂ xor w ex))

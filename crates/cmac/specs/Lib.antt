@@ -1,0 +1,2 @@
+-- AES-CMAC (RFC 4493).
+pub mod Cmac
