@@ -1,15 +1,15 @@
 -- What other crates may cite: an encryption has 16 elements, and each is a byte if those of the key are. Assumes nothing.
 use mathlib.Core.Path.{_≡_, refl}
-use mathlib.Core.Bool.{Bool, true, false}
+use mathlib.Core.Bool.{Bool, true, false, cond}
 use mathlib.Core.List.{List, [], _∷_, _++_}
 use Prim.Native.Nat.{ℕ, zero, suc, _+_, _-_, _*_, _/_, _%_, _^_, _<_}
 use native.Mathlib.Omega.{arith}
-use native.Mathlib.Nat.{zero-mul, one-mul}
 use lib.Bits.{xor-lt}
 use lib.Dec.{eqb, lit<}
 use lib.ListN.{length, getD}
-use Rattle.aes.specs.Field.{_⊕_, xtime, product, inverse, affineBit, affine, sbox}
-use Rattle.aes.specs.Aes.{block, byte, choose, word, xorWord, SubWord, RotWord, Rcon, temp, next, words, wordAt, keyWord, power, roundKey, KeyExpansion, SubBytes, ShiftRows, rounds, xor, Cipher, aes128}
+use Rattle.aes.specs.Field.{_⊕_, bit, inverse, affineBit, affine, sbox}
+use Rattle.aes.proofs.FieldLaws.{product-lt}
+use Rattle.aes.specs.Aes.{block, byte, word, xorWord, SubWord, RotWord, Rcon, temp, next, words, wordAt, keyWord, power, roundKey, KeyExpansion, SubBytes, ShiftRows, rounds, xor, Cipher, aes128}
 
 pub length-aes128 : (key input : List ℕ) → length (aes128 key input) ≡ 16
 unfolding aes128 Cipher
@@ -17,19 +17,23 @@ length-aes128 key input = refl
 
 -- ---- bytes
 
-bit-lt : (x i : ℕ) → affineBit x i < 2
+bit-lt : (b i : ℕ) → bit b i < 2 ^ 1
+bit-lt b i = omega arith
+
+affine-bit-lt : (b i : ℕ) → affineBit b i < 2 ^ 1
 unfolding affineBit
-bit-lt x i = omega arith
+affine-bit-lt b i =
+    xor-lt 1 _ _ (xor-lt 1 _ _ (xor-lt 1 _ _ (xor-lt 1 _ _ (xor-lt 1 _ _ (bit-lt b i) (bit-lt b ((i + 4) % 8))) (bit-lt b ((i + 5) % 8)))
+    (bit-lt b ((i + 6) % 8))) (bit-lt b ((i + 7) % 8))) (bit-lt 0x63 i)
 
-affine-lt : (y : ℕ) → affine y < 2 ^ 8
-unfolding affine
-affine-lt y = omega (arith, bit-lt y 0, bit-lt y 1, bit-lt y 2, bit-lt y 3, bit-lt y 4, bit-lt y 5, bit-lt y 6, bit-lt y 7)
+sbox-lt : (b : ℕ) → sbox b < 2 ^ 8
+unfolding sbox affine
+sbox-lt b =
+    let at = affine-bit-lt (inverse b) in
+    omega (arith, at 0, at 1, at 2, at 3, at 4, at 5, at 6, at 7)
 
-sbox-lt : (x : ℕ) → sbox x < 2 ^ 8
-unfolding sbox
-sbox-lt x = affine-lt (inverse x)
-
-pub Bytes : List ℕ → Type 0
+-- each element of a list is a byte
+Bytes : List ℕ → Type 0
 Bytes l = (i : ℕ) → getD l i 0 < 2 ^ 8
 
 none : Bytes []
@@ -60,18 +64,6 @@ unfolding Bytes
 bytes-xor-word v w p q =
     word-of _ _ _ _ (xor-lt 8 _ _ (p 0) (q 0)) (xor-lt 8 _ _ (p 1) (q 1)) (xor-lt 8 _ _ (p 2) (q 2)) (xor-lt 8 _ _ (p 3) (q 3))
 
-select-lt : (x b : ℕ) → x < 2 → b < 2 ^ 8 → x * b < 2 ^ 8
-select-lt zero b h l = simp zero-mul (lit< tt)
-select-lt (suc zero) b h l = simp one-mul l
-select-lt (suc (suc x)) b h l = absurd (omega arith)
-
-product-lt : (n a b : ℕ) → b < 2 ^ 8 → product n a b < 2 ^ 8
-unfolding product
-product-lt zero a b h = lit< tt
-product-lt (suc n) a b h =
-    xor-lt 8 _ _ (select-lt (a % 2) b (omega arith) h)
-    (product-lt n (a / 2) (xtime b) (xor-lt 8 (b * 2 ^ 1 % 2 ^ 8) (b / 2 ^ 7 * 0x1b) (omega arith) (omega arith)))
-
 power-lt : (n : ℕ) → power n < 2 ^ 8
 unfolding power
 power-lt zero = lit< tt
@@ -81,7 +73,7 @@ bytes-temp : (w : List ℕ) (i : ℕ) → Bytes w → Bytes (temp w i)
 unfolding temp
 bytes-temp w i h = go (eqb (i % 4) 0)
   where
-    go : (b : Bool) → Bytes (choose b (xorWord (SubWord (RotWord w)) (Rcon (i / 4))) w)
+    go : (b : Bool) → Bytes (cond b (xorWord (SubWord (RotWord w)) (Rcon (i / 4))) w)
     go true =
         bytes-xor-word (SubWord (RotWord w)) (Rcon (i / 4)) (word-of _ _ _ _ (sbox-lt _) (sbox-lt _) (sbox-lt _) (sbox-lt _))
         (word-of _ _ _ _ (power-lt (i / 4 - 1)) (lit< tt) (lit< tt) (lit< tt))
@@ -98,7 +90,7 @@ unfolding SubBytes
 bytes-sub s = bytes-block (λ i. sbox (byte s (i % 4) (i / 4))) (λ i. sbox-lt (byte s (i % 4) (i / 4)))
 
 bytes-shift : (s : List ℕ) → Bytes s → Bytes (ShiftRows s)
-unfolding Bytes
+unfolding Bytes ShiftRows
 bytes-shift s h =
     bytes-block (λ i. byte s (i % 4) ((i / 4 + i % 4) % 4)) (λ i. h (i % 4 + 4 * ((i / 4 + i % 4) % 4)))
 
@@ -122,8 +114,12 @@ module _ (key : List ℕ) (h : Bytes key) where
   unfolding Bytes roundKey KeyExpansion
   bytes-round-key r = bytes-block _ (λ i. bytes-words 40 (4 * r + i / 4) (i % 4))
 
-  pub bytes-aes128 : (input : List ℕ) → Bytes (aes128 key input)
+  bytes-aes128 : (input : List ℕ) → Bytes (aes128 key input)
   unfolding aes128 Cipher
   bytes-aes128 input =
       bytes-xor (ShiftRows (SubBytes (rounds (KeyExpansion key) (xor input (roundKey (KeyExpansion key) 0)) 9)))
       (roundKey (KeyExpansion key) 10) (bytes-shift (SubBytes _) (bytes-sub _)) (bytes-round-key 10)
+
+pub byte-aes128 : (key : List ℕ) → ((i : ℕ) → getD key i 0 < 256) → (input : List ℕ) (i : ℕ) → getD (aes128 key input) i 0 < 256
+unfolding Bytes
+byte-aes128 key h input i = bytes-aes128 key h input i

@@ -4,16 +4,17 @@ use mathlib.Core.Bool.{not, _&&_}
 use mathlib.Core.List.{List, [], _∷_, _++_, append-assoc, append-nil}
 use Prim.Native.Nat.{ℕ, suc, _+_, _-_, _*_, _/_, _%_, _^_, _<_, _≤_, min, max}
 use native.Mathlib.Omega.{arith}
+use native.Mathlib.Nat.{zero-add}
 use native.Mathlib.Numerals.{add-one}
 use native.Mathlib.Decide.{ℕ-discrete, decLt}
 use lib.Bits.{xor-zero-r}
 use borrow.Author.Tests.{eq-eqb, ne-eqb, le-leb, lt-leb}
 use lib.Dec.{eqb}
-use lib.ListN.{length, getD, set, take, drop, replicate, length-take, length-drop, List·getD-eq-default}
-use lib.Seq.{set-at, take-suc, take-length, take-all, length-take-le}
+use lib.ListN.{length, getD, set, take, drop, replicate, length-take, length-drop, length-replicate, replicate-append-replicate, List·getD-eq-default}
+use lib.Seq.{sets, sets-eq, set-at, drop-at, take-all}
 use Rattle.aes.specs.Field.{_⊕_}
 use Rattle.aes.specs.Aes.{xor, aes128}
-use Rattle.cmac.specs.Cmac.{shifted, doubled, K1, padding, number, flag, blockOf, lastBlock, chained, cmac}
+use Rattle.cmac.specs.Cmac.{shifted, Zero, doubled, K1, padding, blocks, flag, blockOf, lastBlock, chained, cmac}
 
 -- ---- the shift: byte i of the shifted block
 
@@ -25,27 +26,27 @@ last-byte x h =
     let e : getD x 16 0 ≡ 0 = List·getD-eq-default x 0 (omega arith) in
     ap (λ (b : ℕ). getD x 15 0 * 2 % 256 + b / 128) (sym e)
 
--- ---- a part of a block, filled with zeros
+-- ---- up to a block of bytes, and zeros after them
 
--- after a part p of a block that is zero past it, one byte more
-zero-set : (p : List ℕ) (i v : ℕ) → length p ≡ i → i < 16 → set (p ++ replicate (16 - i) 0) i v ≡ p ++ v ∷ replicate (15 - i) 0
-zero-set p i v l h =
+zeros-left : (k : ℕ) → k ≤ 16 → _≡_ {A = List ℕ} (drop k Zero) (replicate (16 - k) 0)
+zeros-left k h =
+    let e : 16 ≡ k + (16 - k) = omega arith in
+    ap (λ (n : ℕ). drop k (replicate n 0)) e ∙ ap (drop k) (sym (replicate-append-replicate k (16 - k) 0))
+    ∙ drop-at (replicate k 0) (replicate (16 - k) 0) k (length-replicate k 0)
+
+pub fill-done : (t b : List ℕ) → length t ≤ 16 → b ≡ sets Zero 0 t → b ≡ t ++ replicate (16 - length t) 0
+fill-done t b h e =
+    e ∙ sets-eq t Zero 0 (omega arith) ∙ ap (λ (k : ℕ). t ++ drop k Zero) (zero-add (length t)) ∙ ap (λ (z : List ℕ). t ++ z) (zeros-left (length t) h)
+
+-- a byte more, after the bytes p
+byte-more : (p : List ℕ) (i v : ℕ) → length p ≡ i → i < 16 → set (p ++ replicate (16 - i) 0) i v ≡ p ++ v ∷ replicate (15 - i) 0
+byte-more p i v l h =
     let n : 16 - i ≡ suc (15 - i) = omega arith in
     rw n (set-at p 0 (replicate (15 - i) 0) v i l)
 
-pub fill-more : (t b : List ℕ) (i v : ℕ) → i < length t → length t ≤ 16 → b ≡ take i t ++ replicate (16 - i) 0 → v ≡ getD t i 0
-    → set b i v ≡ take (i + 1) t ++ replicate (16 - (i + 1)) 0
-fill-more t b i v h l e ev =
-    let n : 16 - (i + 1) ≡ 15 - i = omega arith in
-    let s : set (take i t ++ replicate (16 - i) 0) i v ≡ take i t ++ v ∷ replicate (15 - i) 0 = zero-set (take i t) i v (length-take-le i t (omega arith)) (omega arith) in
-    rw (e, s, n, add-one, take-suc t i 0, ev) (sym (append-assoc (take i t) (getD t i 0 ∷ []) (replicate (15 - i) 0)))
-
-pub fill-done : (t b : List ℕ) (i : ℕ) → i ≡ length t → b ≡ take i t ++ replicate (16 - i) 0 → b ≡ t ++ replicate (16 - length t) 0
-fill-done t b i e eb = rw (eb, e, take-length t)
-
 pub pad-done : (t b : List ℕ) → length t < 16 → b ≡ t ++ replicate (16 - length t) 0 → set b (length t) 0x80 ≡ padding t
 unfolding padding
-pad-done t b l e = rw e (zero-set t (length t) 0x80 refl l)
+pad-done t b l e = rw e (byte-more t (length t) 0x80 refl l)
 
 pub fill-whole : (t b : List ℕ) → length t ≡ 16 → b ≡ t ++ replicate (16 - length t) 0 → b ≡ t
 fill-whole t b l e = rw l at e ∙ append-nil t
@@ -108,7 +109,7 @@ whole L n k en ek = go (ℕ-discrete L 0) (ℕ-discrete (L % 16) 0)
     go (no p) (yes q) = rw (ne-eqb L 0 p, eq-eqb (L % 16) 0 q, eq-eqb k 16 (omega arith))
     go (no p) (no q) = rw (ne-eqb L 0 p, ne-eqb (L % 16) 0 q, ne-eqb k 16 (λ z. omega arith))
 
-pub cmac-end : (key m x l y r : List ℕ) (n : ℕ) → n ≡ number m - 1 → x ≡ chained key m n
+pub cmac-end : (key m x l y r : List ℕ) (n : ℕ) → n ≡ blocks m - 1 → x ≡ chained key m n
     → l ≡ lastBlock key (eqb (length (take (length m - n * 16) (drop (n * 16) m))) 16) (take (length m - n * 16) (drop (n * 16) m))
     → y ≡ xor l x → r ≡ aes128 key y → r ≡ cmac key m
 unfolding cmac

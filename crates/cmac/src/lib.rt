@@ -1,55 +1,17 @@
 // AES-CMAC (RFC 4493): the code of a message of any length, under a key of 16 bytes.
+//
+// No contract speaks of time, and the time of a call may depend on the key and on the message (see the crate aes).
 ghost use mathlib.Core.Path.{_≡_};
 ghost use mathlib.Core.List.{_++_};
-ghost use Prim.Native.Nat.{_+_, _-_, _*_, _/_, _%_, _≤_, _<_, max};
+ghost use Prim.Native.Nat.{_+_, _-_, _*_, _/_, _≤_, _<_, max};
 ghost use lib.Dec.{eqb};
 ghost use lib.ListN.{length, replicate};
-ghost use Rattle.aes.specs.Field.{_⊕_};
 ghost use Rattle.cmac.specs.Cmac as Spec;
 use aes::cipher::encrypt;
-use aes::round::xor;
+use aes::state::xor;
+use number::runs::copy_into;
 
-// The byte a, shifted by a bit to the left, with the first bit of the byte b after it.
-fn moved(a: u8, b: u8) -> u8
-    ensures { λ r. ⌜ r ≡ a * 2 % 256 + b / 128 ⌝ }
-{
-    (a << 1) + (b >> 7)
-}
-
-fn shifted(x: [u8; 16]) -> [u8; 16]
-    ensures { λ r. ⌜ r ≡ Spec.shifted x ⌝ }
-{
-    let mut out = x;
-    let mut i = 0;
-    while i < 15 {
-        out[i] = moved(x[i], x[i + 1]);
-        i += 1;
-    }
-    out[15] = moved(x[15], 0);
-    out
-}
-
-// The last byte of a shifted block whose first byte was a. With no branch: the subkeys are secret.
-fn reduced(last: u8, a: u8) -> u8
-    ensures { λ r. ⌜ (a < 128 → r ≡ last) × (128 ≤ a → r ≡ _⊕_ last 0x87) ⌝ }
-{
-    last ^ ((a >> 7) * 0x87)
-}
-
-// A subkey, from the one before it.
-fn doubled(x: [u8; 16]) -> [u8; 16]
-    ensures { λ r. ⌜ r ≡ Spec.doubled x ⌝ }
-{
-    let mut s = shifted(x);
-    s[15] = reduced(s[15], x[0]);
-    s
-}
-
-fn first_subkey(key: [u8; 16]) -> [u8; 16]
-    ensures { λ r. ⌜ r ≡ Spec.K1 key ⌝ }
-{
-    doubled(encrypt(key, [0u8; 16]))
-}
+pub mod subkeys;
 
 // Up to a block of bytes, with zeros after them.
 fn filled(bytes: &[u8]) -> [u8; 16]
@@ -57,12 +19,7 @@ fn filled(bytes: &[u8]) -> [u8; 16]
     ensures { λ r. ⌜ r ≡ now (bytes .entry) ++ replicate (16 - length (now (bytes .entry))) 0 ⌝ }
 {
     let mut block = [0u8; 16];
-    let n = bytes.len();
-    let mut i = 0;
-    while i < n {
-        block[i] = bytes[i];
-        i += 1;
-    }
+    copy_into(&mut block, 0, bytes);
     block
 }
 
@@ -81,11 +38,12 @@ fn last_block(key: [u8; 16], rest: &[u8]) -> [u8; 16]
     requires { ⌜ length (now rest) ≤ 16 ⌝ }
     ensures { λ r. ⌜ r ≡ Spec.lastBlock key (eqb (length (now (rest .entry))) 16) (now (rest .entry)) ⌝ }
 {
-    let k1 = first_subkey(key);
+    let k1 = subkeys::first(key);
+    let k2 = subkeys::doubled(k1);
     if rest.len() == 16 {
         xor(filled(rest), k1)
     } else {
-        xor(padded(rest), doubled(k1))
+        xor(padded(rest), k2)
     }
 }
 

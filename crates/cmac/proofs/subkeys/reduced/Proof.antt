@@ -1,8 +1,8 @@
 -- `reduced`: by the first bit.
 use Rattle.cmac.proofs.CodeLaws.{reduced-no, reduced-yes}
 use borrow.Author.Needs.{needs}
-use Rattle.cmac.proofs.reduced.Statement.{statement}
-use Rattle.cmac.proofs.reduced.Tie as tie
+use Rattle.cmac.proofs.subkeys.reduced.Statement.{statement}
+use Rattle.cmac.proofs.subkeys.reduced.Tie as tie
 
 mul-result : tie.Need-mul-result
 mul-result c = search needs

@@ -2,22 +2,21 @@
 use mathlib.Core.Path.{_≡_, _∙_}
 use Prim.Native.Nat.{_≤_, _-_}
 use native.Mathlib.Omega.{arith}
-use lib.ListN.{length, length-set}
 use Rattle.cmac.specs.Cmac.{shifted}
 use Rattle.aes.proofs.Built.{Built, built-none, built-more, built-block}
 use Rattle.cmac.proofs.CodeLaws.{shiftedByte, last-byte}
 use borrow.Author.Needs.{needs}
-use Rattle.cmac.proofs.shifted.Statement.{statement}
-use Rattle.cmac.proofs.shifted.Tie as tie
+use Rattle.cmac.proofs.subkeys.shifted.Statement.{statement}
+use Rattle.cmac.proofs.subkeys.shifted.Tie as tie
 
 abbrev Inv-loop : tie.InvT-loop
-Inv-loop x out₀ i₀ out i = (i ≤ 15) × (length out ≡ 16) × Built (shiftedByte x) i out
+Inv-loop x out₀ i₀ out i = (i ≤ 15) × Built (shiftedByte x) i out
 
 abbrev μ-loop : tie.MeasureT-loop
 μ-loop x out₀ i₀ out i = 15 - i
 
 loop-holds : tie.Need-loop-holds Inv-loop μ-loop
-loop-holds c = (search needs, search needs, built-none _ _)
+loop-holds c = (search needs, built-none _ _ (search needs))
 
 array-read-moved : tie.Need-array-read-moved Inv-loop μ-loop
 array-read-moved c = search needs
@@ -43,8 +42,7 @@ loop-less c = search needs
 loop-again : tie.Need-loop-again Inv-loop μ-loop
 loop-again c =
     let l = c .before .before .loop in
-    let x = c .before .before .before .args .t1 in
-    (omega arith, simp length-set (l .inv .1), built-more (shiftedByte x) (l .i) (l .out) _ (omega arith) (c .moved .ensures) (l .inv .2))
+    (omega arith, built-more _ (l .i) (l .out) _ (omega arith) (c .moved .ensures) (l .inv .1))
 
 array-read-moved-3 : tie.Need-array-read-moved-3 Inv-loop μ-loop
 array-read-moved-3 c = search needs
@@ -61,8 +59,8 @@ returns c =
     let l = c .before .before .loop in
     let x = c .before .before .before .args .t1 in
     let e : l .i ≡ 15 = omega arith in
-    built-block (shiftedByte x) _ (simp length-set (l .inv .1))
-    (built-more (shiftedByte x) 15 (l .out) _ (omega arith) (c .moved2 .ensures ∙ last-byte x (search needs)) (rw e at (l .inv .2)))
+    built-block (shiftedByte x) 16 _ (omega arith)
+    (built-more (shiftedByte x) 15 (l .out) _ (omega arith) (c .moved2 .ensures ∙ last-byte x (search needs)) (rw e at (l .inv .1)))
 
 pub shifted-spec : {M : Type 1} → statement M
 shifted-spec =

@@ -1,8 +1,8 @@
 -- `doubled`: shifted, and its last byte by the first bit.
 use Rattle.cmac.proofs.CodeLaws.{doubling}
 use borrow.Author.Needs.{needs}
-use Rattle.cmac.proofs.doubled.Statement.{statement}
-use Rattle.cmac.proofs.doubled.Tie as tie
+use Rattle.cmac.proofs.subkeys.doubled.Statement.{statement}
+use Rattle.cmac.proofs.subkeys.doubled.Tie as tie
 
 shifted-requires : tie.Need-shifted-requires
 shifted-requires c κs = search needs
