@@ -1,7 +1,7 @@
 -- The steps of AES-CMAC as the code takes them. Assumes nothing.
 use mathlib.Core.Path.{_≡_, refl, sym, ap, ap₂, _∙_}
 use mathlib.Core.Bool.{not, _&&_}
-use mathlib.Core.List.{List, [], _∷_, _++_, append-assoc, append-nil}
+use mathlib.Core.List.{List, _∷_, _++_, append-nil}
 use Prim.Native.Nat.{ℕ, suc, _+_, _-_, _*_, _/_, _%_, _^_, _<_, _≤_, min, max}
 use native.Mathlib.Omega.{arith}
 use native.Mathlib.Nat.{zero-add}
@@ -11,7 +11,8 @@ use lib.Bits.{xor-zero-r}
 use borrow.Author.Tests.{eq-eqb, ne-eqb, le-leb, lt-leb}
 use lib.Dec.{eqb}
 use lib.ListN.{length, getD, set, take, drop, replicate, length-take, length-drop, length-replicate, replicate-append-replicate, List·getD-eq-default}
-use lib.Seq.{sets, sets-eq, set-at, drop-at, take-all}
+use lib.Seq.{sets, sets-eq, set-at, drop-at}
+use Rattle.number.proofs.ListLaws.{part-rest, length-part}
 use Rattle.aes.specs.Field.{_⊕_}
 use Rattle.aes.specs.Aes.{xor, aes128}
 use Rattle.cmac.specs.Cmac.{shifted, Zero, doubled, K1, padding, blocks, flag, blockOf, lastBlock, chained, cmac}
@@ -86,17 +87,21 @@ module _ (key t k b : List ℕ) (e : k ≡ K1 key) where
 
 -- ---- the blocks before the last
 
-pub part-length : (m : List ℕ) (i : ℕ) → i * 16 + 16 ≤ length m → length (take (i * 16 + 16 - i * 16) (drop (i * 16) m)) ≡ 16
-part-length m i h = simp (length-take, length-drop) (omega arith)
+module _ (m : List ℕ) (i : ℕ) (h : i * 16 + 16 ≤ length m) where
+  part : take (i * 16 + 16 - i * 16) (drop (i * 16) m) ≡ blockOf m i
+  part =
+      let n : i * 16 + 16 - i * 16 ≡ 16 = omega arith in
+      ap (λ (k : ℕ). take k (drop (i * 16) m)) n
 
-pub chain-more : (key m x b y z : List ℕ) (i : ℕ) → i * 16 + 16 ≤ length m → x ≡ chained key m i
-    → b ≡ take (i * 16 + 16 - i * 16) (drop (i * 16) m) ++ replicate (16 - length (take (i * 16 + 16 - i * 16) (drop (i * 16) m))) 0
-    → y ≡ xor x b → z ≡ aes128 key y → z ≡ chained key m (i + 1)
-unfolding chained
-chain-more key m x b y z i h ex eb ey ez =
-    let n : i * 16 + 16 - i * 16 ≡ 16 = omega arith in
-    let w : b ≡ blockOf m i = fill-whole _ b (part-length m i h) eb ∙ ap (λ (k : ℕ). take k (drop (i * 16) m)) n in
-    rw add-one (ez ∙ ap (aes128 key) (ey ∙ ap₂ xor ex w))
+  pub part-length : length (take (i * 16 + 16 - i * 16) (drop (i * 16) m)) ≡ 16
+  part-length = ap length part ∙ length-part m (i * 16) 16 h
+
+  pub chain-more : (key x b y z : List ℕ) → x ≡ chained key m i
+      → b ≡ take (i * 16 + 16 - i * 16) (drop (i * 16) m) ++ replicate (16 - length (take (i * 16 + 16 - i * 16) (drop (i * 16) m))) 0
+      → y ≡ xor x b → z ≡ aes128 key y → z ≡ chained key m (i + 1)
+  unfolding chained
+  chain-more key x b y z ex eb ey ez =
+      rw add-one (ez ∙ ap (aes128 key) (ey ∙ ap₂ xor ex (fill-whole _ b part-length eb ∙ part)))
 
 -- ---- the end
 
@@ -114,9 +119,7 @@ pub cmac-end : (key m x l y r : List ℕ) (n : ℕ) → n ≡ blocks m - 1 → x
     → y ≡ xor l x → r ≡ aes128 key y → r ≡ cmac key m
 unfolding cmac
 cmac-end key m x l y r n en ex el ey er =
-    let t : take (length m - n * 16) (drop (n * 16) m) ≡ blockOf m n =
-    take-all (length m - n * 16) (drop (n * 16) m) (simp length-drop (omega arith))
-    ∙ sym (take-all 16 (drop (n * 16) m) (simp length-drop (omega arith))) in
+    let t : take (length m - n * 16) (drop (n * 16) m) ≡ blockOf m n = part-rest m (n * 16) 16 (omega arith) in
     let f : flag m ≡ eqb (length (blockOf m n)) 16 = whole (length m) n (length (blockOf m n)) en (simp (length-take, length-drop)) in
     let w : l ≡ lastBlock key (flag m) (blockOf m n) = rw (f, ← t) el in
     rw (← en) (er ∙ ap (aes128 key) (ey ∙ ap₂ xor w ex))

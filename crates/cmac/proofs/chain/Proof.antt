@@ -53,7 +53,7 @@ loop-again : tie.Need-loop-again Inv-loop μ-loop
 loop-again c =
     let l = c .before .before .before .before .before .loop in
     let a = c .before .before .before .before .before .before .before .args in
-    (omega arith, chain-more (a .key) (now (a .message)) (l .x) _ _ _ (l .i) (omega arith) (l .inv .1) (c .before .before .filled .ensures) (c .before .xor .ensures) (c .encrypt .ensures))
+    (omega arith, chain-more (now (a .message)) (l .i) (omega arith) (a .key) (l .x) _ _ _ (l .inv .1) (c .before .before .filled .ensures) (c .before .xor .ensures) (c .encrypt .ensures))
 
 returns : tie.Need-returns Inv-loop μ-loop
 returns c =
