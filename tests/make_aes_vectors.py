@@ -3,8 +3,8 @@
 
 No value is computed by this project's code. Each line is made twice: by the functions below, which were written from FIPS 197 and RFC 4493 (the
 inverse by search, a round by a table of columns), and by the Python package cryptography (OpenSSL's code). The script stops if they differ. Where
-the package is not there it says so, and the functions below stand alone. PUBLISHED has what the documents print, and the script stops if anything
-else comes out. The lines:
+the package is not there it says so, and the functions below stand alone. (The package hands no subkeys out: K1 and K2 are its L, doubled below.)
+PUBLISHED has what the documents print, and the script stops if anything else comes out. The lines:
 
   appendix B, C.1   the examples of FIPS 197 (in C.1, the one with 128 bits).
   GFSbox, KeySbox   known answers of NIST's AESAVS for 128 bits, appendices B.1 and C.1: blocks under the zero key, and the zero block under keys.

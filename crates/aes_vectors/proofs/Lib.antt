@@ -1,0 +1,2 @@
+-- A vector as a theorem.
+pub mod Vectors
