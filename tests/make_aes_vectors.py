@@ -4,10 +4,11 @@
 No value is computed by this project's code. Each line is made twice: by the functions below, which were written from FIPS 197 and RFC 4493 (the
 inverse by search, a round by a table of columns), and by the Python package cryptography (OpenSSL's code). The script stops if they differ. Where
 the package is not there it says so, and the functions below stand alone. (The package hands no subkeys out: K1 and K2 are its L, doubled below.)
-PUBLISHED has what the documents print, and the script stops if anything else comes out. The lines:
+PUBLISHED, GFSBOX and KEYSBOX have what the documents print, and the script stops if anything else comes out. The lines:
 
   appendix B, C.1   the examples of FIPS 197 (in C.1, the one with 128 bits).
-  GFSbox, KeySbox   known answers of NIST's AESAVS for 128 bits, appendices B.1 and C.1: blocks under the zero key, and the zero block under keys.
+  GFSbox, KeySbox   known answers of NIST's AESAVS for 128 bits, appendices B.1 and C.1: a block under the zero key, and the zero block under a key;
+                    the line has this block or key first.
   VarTxt, VarKey    AESAVS, appendices D and E: line i has the first i + 1 bits of the block, or of the key, set.
   chain             the Monte Carlo test of AESAVS (6.4, ECB) from the start of NIST's file ECBMCT128.rsp: 100 times 1000 encryptions.
   L, K1, K2         the subkeys that RFC 4493 prints.
@@ -31,34 +32,6 @@ TARGET = Path(__file__).resolve().parent.parent / 'crates/aes_vectors/stdout'
 PUBLISHED = {
     'appendix B': '3925841d02dc09fbdc118597196a0b32',
     'appendix C.1': '69c4e0d86a7b0430d8cdb78070b4c55a',
-    'GFSbox 0': '0336763e966d92595a567cc9ce537f5e',
-    'GFSbox 1': 'a9a1631bf4996954ebc093957b234589',
-    'GFSbox 2': 'ff4f8391a6a40ca5b25d23bedd44a597',
-    'GFSbox 3': 'dc43be40be0e53712f7e2bf5ca707209',
-    'GFSbox 4': '92beedab1895a94faa69b632e5cc47ce',
-    'GFSbox 5': '459264f4798f6a78bacb89c15ed3d601',
-    'GFSbox 6': '08a4e2efec8a8e3312ca7460b9040bbf',
-    'KeySbox 0': '6d251e6944b051e04eaa6fb4dbf78465',
-    'KeySbox 1': '6e29201190152df4ee058139def610bb',
-    'KeySbox 2': 'c3b44b95d9d2f25670eee9a0de099fa3',
-    'KeySbox 3': '5d9b05578fc944b3cf1ccf0e746cd581',
-    'KeySbox 4': 'f7efc89d5dba578104016ce5ad659c05',
-    'KeySbox 5': '0306194f666d183624aa230a8b264ae7',
-    'KeySbox 6': '858075d536d79ccee571f7d7204b1f67',
-    'KeySbox 7': '35870c6a57e9e92314bcb8087cde72ce',
-    'KeySbox 8': '6c68e9be5ec41e22c825b7c7affb4363',
-    'KeySbox 9': 'f5df39990fc688f1b07224cc03e86cea',
-    'KeySbox 10': 'bba071bcb470f8f6586e5d3add18bc66',
-    'KeySbox 11': '43c9f7e62f5d288bb27aa40ef8fe1ea8',
-    'KeySbox 12': '3580d19cff44f1014a7c966a69059de5',
-    'KeySbox 13': '806da864dd29d48deafbe764f8202aef',
-    'KeySbox 14': 'a303d940ded8f0baff6f75414cac5243',
-    'KeySbox 15': 'c2dabd117f8a3ecabfbb11d12194d9d0',
-    'KeySbox 16': 'fff60a4740086b3b9c56195b98d91a7b',
-    'KeySbox 17': '8146a08e2357f0caa30ca8c94d1a0544',
-    'KeySbox 18': '4b98e06d356deb07ebb824e5713f7be3',
-    'KeySbox 19': '7a20a53d460fc9ce0423a7a0764c6cf2',
-    'KeySbox 20': 'f4a70d8af877f9b02b4c40df57d45b17',
     'VarTxt 0': '3ad78e726c1ec02b7ebfe92b23d9ec34',
     'VarTxt 127': '3f5b8cc9ea855a0afa7347d23e8d664e',
     'VarKey 0': '0edd33d3c621e546455bd8ba1418bec8',
@@ -75,20 +48,38 @@ PUBLISHED = {
 
 ZERO = bytes(16)
 KEY = bytes.fromhex('2b7e151628aed2a6abf7158809cf4f3c')
-GFSBOX = [
-    'f34481ec3cc627bacd5dc3fb08f273e6', '9798c4640bad75c7c3227db910174e72', '96ab5c2ff612d9dfaae8c31f30c42168',
-    '6a118a874519e64e9963798a503f1d35', 'cb9fceec81286ca3e989bd979b0cb284', 'b26aeb1874e47ca8358ff22378f09144',
-    '58c8e00b2631686d54eab84b91f0aca1',
-]
-KEYSBOX = [
-    '10a58869d74be5a374cf867cfb473859', 'caea65cdbb75e9169ecd22ebe6e54675', 'a2e2fa9baf7d20822ca9f0542f764a41',
-    'b6364ac4e1de1e285eaf144a2415f7a0', '64cf9c7abc50b888af65f49d521944b2', '47d6742eefcc0465dc96355e851b64d9',
-    '3eb39790678c56bee34bbcdeccf6cdb5', '64110a924f0743d500ccadae72c13427', '18d8126516f8a12ab1a36d9f04d68e51',
-    'f530357968578480b398a3c251cd1093', 'da84367f325d42d601b4326964802e8e', 'e37b1c6aa2846f6fdb413f238b089f23',
-    '6c002b682483e0cabcc731c253be5674', '143ae8ed6555aba96110ab58893a8ae1', 'b69418a85332240dc82492353956ae0c',
-    '71b5c08a1993e1362e4d0ce9b22b78d5', 'e234cdca2606b81f29408d5f6da21206', '13237c49074a3da078dc1d828bb78c6f',
-    '3071a2a48fe6cbd04f1a129098e308f8', '90f42ec0f68385f2ffc5dfc03a654dce', 'febd9a24d8b65c1c787d50a4ed3619a9',
-]
+GFSBOX = {
+    'f34481ec3cc627bacd5dc3fb08f273e6': '0336763e966d92595a567cc9ce537f5e',
+    '9798c4640bad75c7c3227db910174e72': 'a9a1631bf4996954ebc093957b234589',
+    '96ab5c2ff612d9dfaae8c31f30c42168': 'ff4f8391a6a40ca5b25d23bedd44a597',
+    '6a118a874519e64e9963798a503f1d35': 'dc43be40be0e53712f7e2bf5ca707209',
+    'cb9fceec81286ca3e989bd979b0cb284': '92beedab1895a94faa69b632e5cc47ce',
+    'b26aeb1874e47ca8358ff22378f09144': '459264f4798f6a78bacb89c15ed3d601',
+    '58c8e00b2631686d54eab84b91f0aca1': '08a4e2efec8a8e3312ca7460b9040bbf',
+}
+KEYSBOX = {
+    '10a58869d74be5a374cf867cfb473859': '6d251e6944b051e04eaa6fb4dbf78465',
+    'caea65cdbb75e9169ecd22ebe6e54675': '6e29201190152df4ee058139def610bb',
+    'a2e2fa9baf7d20822ca9f0542f764a41': 'c3b44b95d9d2f25670eee9a0de099fa3',
+    'b6364ac4e1de1e285eaf144a2415f7a0': '5d9b05578fc944b3cf1ccf0e746cd581',
+    '64cf9c7abc50b888af65f49d521944b2': 'f7efc89d5dba578104016ce5ad659c05',
+    '47d6742eefcc0465dc96355e851b64d9': '0306194f666d183624aa230a8b264ae7',
+    '3eb39790678c56bee34bbcdeccf6cdb5': '858075d536d79ccee571f7d7204b1f67',
+    '64110a924f0743d500ccadae72c13427': '35870c6a57e9e92314bcb8087cde72ce',
+    '18d8126516f8a12ab1a36d9f04d68e51': '6c68e9be5ec41e22c825b7c7affb4363',
+    'f530357968578480b398a3c251cd1093': 'f5df39990fc688f1b07224cc03e86cea',
+    'da84367f325d42d601b4326964802e8e': 'bba071bcb470f8f6586e5d3add18bc66',
+    'e37b1c6aa2846f6fdb413f238b089f23': '43c9f7e62f5d288bb27aa40ef8fe1ea8',
+    '6c002b682483e0cabcc731c253be5674': '3580d19cff44f1014a7c966a69059de5',
+    '143ae8ed6555aba96110ab58893a8ae1': '806da864dd29d48deafbe764f8202aef',
+    'b69418a85332240dc82492353956ae0c': 'a303d940ded8f0baff6f75414cac5243',
+    '71b5c08a1993e1362e4d0ce9b22b78d5': 'c2dabd117f8a3ecabfbb11d12194d9d0',
+    'e234cdca2606b81f29408d5f6da21206': 'fff60a4740086b3b9c56195b98d91a7b',
+    '13237c49074a3da078dc1d828bb78c6f': '8146a08e2357f0caa30ca8c94d1a0544',
+    '3071a2a48fe6cbd04f1a129098e308f8': '4b98e06d356deb07ebb824e5713f7be3',
+    '90f42ec0f68385f2ffc5dfc03a654dce': '7a20a53d460fc9ce0423a7a0764c6cf2',
+    'febd9a24d8b65c1c787d50a4ed3619a9': 'f4a70d8af877f9b02b4c40df57d45b17',
+}
 CHAIN_KEY = bytes.fromhex('139a35422f1d61de3c91787fe0507afd')
 CHAIN_BLOCK = bytes.fromhex('b9145a768b7dc489a096b546f43b231f')
 MESSAGE = bytes.fromhex(
@@ -102,12 +93,12 @@ RULED = bytes((7 * i + 3) % 256 for i in range(80))
 
 def product(a, b):
     """The product of two bytes in GF(2^8)."""
-    sum = 0
+    result = 0
     while a:
         if a & 1:
-            sum ^= b
+            result ^= b
         a, b = a >> 1, (b << 1) ^ (0x11B if b & 0x80 else 0)
-    return sum
+    return result
 
 
 def substitution(byte):
@@ -146,9 +137,9 @@ def encrypt(key, block):
     w = schedule(key)
     s = [int.from_bytes(block[4 * c:4 * c + 4], 'big') ^ w[c] for c in range(4)]
     m0, m1, m2, m3 = MIXED
-    for round in range(4, 40, 4):
+    for at in range(4, 40, 4):
         s = [
-            m0[s[c] >> 24] ^ m1[s[c - 3] >> 16 & 0xFF] ^ m2[s[c - 2] >> 8 & 0xFF] ^ m3[s[c - 1] & 0xFF] ^ w[round + c]
+            m0[s[c] >> 24] ^ m1[s[c - 3] >> 16 & 0xFF] ^ m2[s[c - 2] >> 8 & 0xFF] ^ m3[s[c - 1] & 0xFF] ^ w[at + c]
             for c in range(4)
         ]
     shifted = [s[c] & 0xFF000000 | s[c - 3] & 0xFF0000 | s[c - 2] & 0xFF00 | s[c - 1] & 0xFF for c in range(4)]
@@ -199,10 +190,10 @@ def code_by_package(key, message):
 def values(encrypt, code):
     yield 'appendix B', encrypt(KEY, bytes.fromhex('3243f6a8885a308d313198a2e0370734'))
     yield 'appendix C.1', encrypt(bytes(range(16)), bytes(0x11 * i for i in range(16)))
-    for i, block in enumerate(GFSBOX):
-        yield f'GFSbox {i}', encrypt(ZERO, bytes.fromhex(block))
-    for i, key in enumerate(KEYSBOX):
-        yield f'KeySbox {i}', encrypt(bytes.fromhex(key), ZERO)
+    for block in GFSBOX:
+        yield f'GFSbox {block}', encrypt(ZERO, bytes.fromhex(block))
+    for key in KEYSBOX:
+        yield f'KeySbox {key}', encrypt(bytes.fromhex(key), ZERO)
     for i in range(128):
         ones = (2 ** 128 - 2 ** (127 - i)).to_bytes(16, 'big')
         yield f'VarTxt {i}', encrypt(ZERO, ones)
@@ -224,9 +215,14 @@ def values(encrypt, code):
 
 def lines(encrypt, code):
     made = [(name, value.hex()) for name, value in values(encrypt, code)]
-    for name, published in PUBLISHED.items():
-        if dict(made)[name] != published:
-            sys.exit(f'{name}: {dict(made)[name]} was made, and {published} was published')
+    published = {
+        **PUBLISHED,
+        **{f'GFSbox {block}': value for block, value in GFSBOX.items()},
+        **{f'KeySbox {key}': value for key, value in KEYSBOX.items()},
+    }
+    for name, value in published.items():
+        if dict(made)[name] != value:
+            sys.exit(f'{name}: {dict(made)[name]} was made, and {value} was published')
     return ''.join(f'{name} {value}\n' for name, value in made)
 
 
