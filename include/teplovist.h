@@ -2,14 +2,15 @@
  * Teplovist: DISA and DIFF save containers.
  *
  * A call works on what the caller lends it, an image that is decrypted and whole or a running digest, and keeps nothing between calls. The
- * 0x100 bytes at the front of an image (its AES-CMAC) are neither read nor changed: the host signs again after a commit. What it signs is
- * the SHA-256 of the block that teplovist_signing_block builds.
+ * first 16 bytes of an image are its signature: the AES-CMAC, under a key that the host hands in, of the SHA-256 of the block that
+ * teplovist_signing_block builds. teplovist_open_signed checks it and teplovist_commit_signed stores it with the header; every other call
+ * neither reads nor changes it, so that after a plain commit the host signs again. No call reads or changes the bytes from 0x10 to 0xFF.
  *
  * A pointer and a length lend that many bytes for the call. Both are taken as they are, so they must be right: no pointer may be null, not
  * even where the length is 0 (it is not followed then); the bytes must be there, in one object, so no length is above PTRDIFF_MAX; a session
- * is 257 bytes, a block 284, a running digest 104 and a digest 32, a description is 80 numbers and a signer 4, aligned as a uint64_t is. Of a
- * call that breaks this nothing is promised, no refusal either. A length that is right, but too much, is refused: an image above 0x4000000
- * bytes by 1, a buffer or data past level 4's end by 9, and a piece that makes a message too long by 22.
+ * is 257 bytes, a key 16, a block 284, a running digest 104 and a digest 32, a description is 80 numbers and a signer 4, aligned as a uint64_t
+ * is. Of a call that breaks this nothing is promised, no refusal either. A length that is right, but too much, is refused: an image above
+ * 0x4000000 bytes by 1, a buffer or data past level 4's end by 9, and a piece that makes a message too long by 22.
  *
  * Two arguments of one call must not overlap. Any number of calls may read one image at a time; a call that changes one must be alone with it.
  */
@@ -49,6 +50,7 @@ enum {
     TEPLOVIST_SESSION_STATE = 13,   /* the session is idle where begun is needed, or begun where idle is */
     TEPLOVIST_STALE = 14,           /* the header or the inactive table is not as the session left it */
     TEPLOVIST_SIGNER_KIND = 15,     /* the container's kind does not fit the signer's type */
+    TEPLOVIST_SIGNATURE = 16,       /* the first 16 bytes are not the signature */
     TEPLOVIST_DIGEST_TOO_LONG = 22  /* a running digest was fed, or would be, more than 2^61 - 1 bytes */
 };
 
@@ -133,6 +135,9 @@ enum {
 
 #define TEPLOVIST_DIGEST_SIZE 32
 
+/* A key for signing. It is read, and nothing of it is kept; how long a call takes may depend on it. */
+#define TEPLOVIST_KEY_SIZE 16
+
 /*
  * A running digest is 104 bytes that the caller keeps: the hash value's eight words, the block whose front waits to be full, and how many
  * bytes were fed, each number with its least significant byte first. Any 104 bytes are one, but only what teplovist_digest_start made, and
@@ -141,12 +146,19 @@ enum {
 #define TEPLOVIST_DIGEST_STATE_SIZE 104
 
 /*
- * The calls from teplovist_open to teplovist_commit open the image first and may be refused with 1 to 7. teplovist_abandon and the calls on
+ * The calls from teplovist_open to teplovist_commit_signed open the image first and may be refused with 1 to 7. teplovist_abandon and the calls on
  * a running digest take no image; the two calls for a signer look at its length and its header alone.
  */
 
 /* Opens an image and stores its 80 numbers. Refusals: 1 to 7. */
 uint64_t teplovist_open(const uint8_t *image, size_t image_length, uint64_t *description);
+
+/*
+ * The same of an image that must be signed under a key by a signer. Refusals: 1, 2, 3, then 15, then 16 if the first 16 bytes are not the
+ * signature, then 4 to 7.
+ */
+uint64_t teplovist_open_signed(const uint8_t *image, size_t image_length, const uint8_t *key, const uint64_t *signer,
+                               uint64_t *description);
 
 /*
  * Reads buffer_length bytes of a partition's level 4 from a place on, as the active table has it: the whole buffer is filled, or no byte
@@ -180,6 +192,14 @@ uint64_t teplovist_write(uint8_t *image, size_t image_length, const uint8_t *ses
  * again. Refusals: 13, 14.
  */
 uint64_t teplovist_commit(uint8_t *image, size_t image_length, uint8_t *session);
+
+/*
+ * The same with a signature: stores the signature of the new header, under a key by a signer, together with that header, so that
+ * teplovist_open_signed accepts the image. What must land in one piece is then the first 0x200 bytes: the 16 at the front and the 256 from
+ * 0x100 on are stored, and those between them stay. The old signature is not looked at. Refusals: 13, 14, 15.
+ */
+uint64_t teplovist_commit_signed(uint8_t *image, size_t image_length, uint8_t *session, const uint8_t *key,
+                                 const uint64_t *signer);
 
 /* Ends a session without a look at the image: what it staged is forgotten. Refusals: 13. */
 uint64_t teplovist_abandon(uint8_t *session);

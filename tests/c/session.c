@@ -1,6 +1,6 @@
 /*
  * session IMAGE..: for each image compares every number of its description with the image's own bytes, read at the offsets that the paper
- * prints, looks at each block that is signed, and runs a whole session on it. It knows the library by include/teplovist.h alone. Prints what
+ * prints, looks at each block that is signed, and runs whole sessions on it, plain and signed. It knows the library by include/teplovist.h alone. Prints what
  * differs and ends with 1, or says how much it compared. No two names of the description may have the same numbers in all images: they could
  * be exchanged unseen.
  */
@@ -456,6 +456,48 @@ static void expect_digests(void) {
     expect_bytes("the digest of a call that is refused", kept, digest, sizeof digest);
 }
 
+/* ---- signed opening and signed commits */
+
+static uint64_t open_signed(const uint8_t *image, size_t length, const uint8_t *key, const uint64_t *signer) {
+    uint64_t numbers[TEPLOVIST_DESCRIPTION_LENGTH], answer;
+    memset(numbers, 0xA5, sizeof numbers);
+    answer = teplovist_open_signed(image, length, key, signer, numbers);
+    if (answer == TEPLOVIST_ACCEPTED)
+        expect_bytes("a signed image's description", (const uint8_t *)description, (const uint8_t *)numbers, sizeof numbers);
+    else
+        expect("the description of a signed image that is refused", 0xA5A5A5A5A5A5A5A5, numbers[TEPLOVIST_KIND]);
+    return answer;
+}
+
+/* A signer of the container's kind signs a commit; the image then opens under its key, and under no other. */
+static void expect_signed(uint8_t *image, size_t length, uint64_t number) {
+    uint64_t signer[TEPLOVIST_SIGNER_LENGTH] = {number, 0x0123456789ABCDEF, 1, 2}, other[TEPLOVIST_SIGNER_LENGTH] = {number, 1, 3, 4};
+    uint8_t session[TEPLOVIST_SESSION_SIZE] = {0}, key[TEPLOVIST_KEY_SIZE] = {1, 2, 3}, between[0xF0];
+    if (types[number].kind != header_of(image).kind) {
+        ANSWERS(TEPLOVIST_SIGNER_KIND, open_signed(image, length, key, signer));
+        ANSWERS(TEPLOVIST_ACCEPTED, teplovist_begin(image, length, session));
+        ANSWERS(TEPLOVIST_SIGNER_KIND, teplovist_commit_signed(image, length, session, key, signer));
+        ANSWERS(TEPLOVIST_ACCEPTED, teplovist_abandon(session));
+        return;
+    }
+    memcpy(between, image + 0x10, sizeof between);
+    ANSWERS(TEPLOVIST_SIGNATURE, open_signed(image, length, key, signer));
+    ANSWERS(TEPLOVIST_SESSION_STATE, teplovist_commit_signed(image, length, session, key, signer));
+    ANSWERS(TEPLOVIST_ACCEPTED, teplovist_begin(image, length, session));
+    ANSWERS(TEPLOVIST_ACCEPTED, teplovist_commit_signed(image, length, session, key, signer));
+    expect_bytes("the session after a signed commit", idle, session, sizeof idle);
+    expect_bytes("the bytes behind the signature", between, image + 0x10, sizeof between);
+    expect_description(image, length);
+    ANSWERS(TEPLOVIST_ACCEPTED, open_signed(image, length, key, signer));
+    if (number != TEPLOVIST_CARD)
+        ANSWERS(TEPLOVIST_SIGNATURE, open_signed(image, length, key, other));
+    key[15] ^= 1;
+    ANSWERS(TEPLOVIST_SIGNATURE, open_signed(image, length, key, signer));
+    key[15] ^= 1;
+    image[15] ^= 1;
+    ANSWERS(TEPLOVIST_SIGNATURE, open_signed(image, length, key, signer));
+}
+
 static void run(uint8_t *image, size_t length) {
     uint64_t q;
     expect_description(image, length);
@@ -475,6 +517,8 @@ static void run(uint8_t *image, size_t length) {
         expect_committed(image, length, level);
         expect_description(image, length);
     }
+    for (q = 0; q < sizeof types / sizeof *types; q++)
+        expect_signed(image, length, q);
 }
 
 /* The file's bytes; a sample is shorter than 64 KiB. */

@@ -2,7 +2,7 @@
 what it stored can meet every contract; most of these do not trouble to, since that they compile is all that is asked here."""
 
 BEGINNING = 'steps/src/beginning.rt'
-COMMITTING = 'steps/src/committing.rt'
+COMMITTING = 'commits/src/lib.rt'
 STAGING = 'dpfs/src/staging.rt'
 SESSIONS = 'container/src/sessions.rt'
 RUNS = 'number/src/runs.rt'
@@ -24,7 +24,9 @@ def before(line, *texts):
 STAGED = lines('stage_table(space, c, image);')
 BEGUN = lines('stage_image(space_of(c), c, image);')
 SWITCHED = lines('switch_tables(image, c);')
-HEADER_STORED = lines('store_header(image, header);')
+HEADER_STORED = lines('store_header(image, next);')
+SIGNATURE_STORED = lines('copy_into(image, 0, &signature);')
+SIGNED = lines('switch_signed(image, c, key, signer);')
 NEW = '// A session that remembers nothing.\n'
 STAGE_IMAGE = "// And each partition's other half"
 SECOND_TREE = lines('if c.header.count == 2 {', '    begin_tree(space, space.b, image);', '}')
@@ -132,15 +134,15 @@ OTHER_SPACES = [
         'calls.begin (now (image .entry)) session) ⌝ }\n{\n    let answer = open(&image[1..]);')]}),
 ]
 
-ONE_HEADER = 'commit: steps::committing::store_header is to have the image from one call'
+ONE_HEADER = 'commit: commits::store_header is to have the image from one call'
 
 OTHER_COMMITS = [
     ('two headers', ONE_HEADER, {COMMITTING: [before(HEADER_STORED, 'store_header(image, [0u8; 256]);')]}),
     ('a header in a loop', ONE_HEADER, {COMMITTING: [(HEADER_STORED, lines(
-        'let mut k = 0;', 'while k < 2 {', '    store_header(image, header);', '    k += 1;', '}'))]}),
+        'let mut k = 0;', 'while k < 2 {', '    store_header(image, next);', '    k += 1;', '}'))]}),
     ('a header that calls itself', ONE_HEADER, {COMMITTING: [after(
         lines('copy_into(image, HEADER, &header);'), 'if header[0] != image[HEADER] {', '    store_header(image, header);', '}')]}),
-    ('two commits', 'commit: steps::committing::switch_tables is to have the image from one call', {
+    ('two commits', 'commit: commits::switch_tables is to have the image from one call', {
         SESSIONS: [after(SWITCHED, 'switch_tables(image, c);')]}),
     ('each byte of the header twice', 'number::runs::copy_into: is not, statement by statement', {RUNS: [before(
         lines('    target[at + k] = run[k];'), '    target[at + k] = 0;')]}),
@@ -149,7 +151,17 @@ OTHER_COMMITS = [
         'dpfs::staging::store(space_of(c), image, at, 0);', 'dpfs::staging::store(space_of(c), image, at, value);')]}),
     ('a store by commit itself', 'commit: the image is stored to by container::sessions::commit', {SESSIONS: [before(
         SWITCHED, 'let value = image[0x300];', 'image[0x300] = value;')]}),
-    ('a begin that stores the header', 'begin reaches steps::committing::store_header', {SESSIONS: [after(
+    ('two signatures', 'commit_signed: number::runs::copy_into is to have the image from 2 calls', {COMMITTING: [before(
+        SIGNATURE_STORED, 'copy_into(image, 0, &[0u8; 16]);')]}),
+    ('a signature over the bytes behind it', 'commits::store_signed: is not, statement by statement', {COMMITTING: [(
+        SIGNATURE_STORED, lines('copy_into(image, 16, &signature);'))]}),
+    ('a signed commit that commits twice', 'commit_signed: commits::switch_signed is to have the image from one call', {
+        SESSIONS: [after(SIGNED, 'switch_signed(image, c, key, signer);')]}),
+    ('a signed commit that stores the header before', 'commit_signed reaches commits::switch_tables', {
+        SESSIONS: [before(SIGNED, 'switch_tables(image, c);')]}),
+    ('a store by a signed commit itself', 'commit_signed: the image is stored to by container::sessions::commit_signed', {SESSIONS: [before(
+        SIGNED, 'let value = image[0x10];', 'image[0x10] = value;')]}),
+    ('a begin that stores the header', 'begin reaches commits::store_header', {SESSIONS: [after(
         BEGUN, 'switch_tables(image, c);', 'switch_tables(image, c);')]}),
 ]
 

@@ -1,8 +1,9 @@
 """What must hold of the stores to an image, and what is found where it does not. See docs/TRUST.md for what rests on it.
 
 1. Begin and write store to an image in one function, dpfs::staging::store: at the place i that it is given, of which its `requires` says that it
-   is free in the space that it is given. Commit does so in one place too: it hands the image, whole, to number::runs::copy_into once, which
-   stores each byte of the header once, from 0x100 on. The three functions at the ends are compared statement by statement.
+   is free in the space that it is given. A commit does so in one place too: it hands the image, whole, to number::runs::copy_into once, which
+   stores each byte of the header once, from 0x100 on; a signed one twice, for the 16 bytes of the signature at the front and for the header.
+   The functions at the ends are compared statement by statement.
 2. A space is made by views::places::space_of alone, of a container that layout makes, when it opens the image that the call was lent, whole.
    Nobody changes a field of one, or takes its address.
 3. The contracts that this rests on stand as they are written here."""
@@ -13,8 +14,14 @@ from mir import Assign
 
 STORE = 'dpfs::staging::store'
 OPEN = 'layout::opening::open'
-SESSION_CALLS = ['begin', 'write', 'commit']
-HEADER_PATH = ['steps::committing::switch_tables', 'steps::committing::store_header', 'number::runs::copy_into']
+COPY = 'number::runs::copy_into'
+
+# The commits: the way of the image from the call to the store of its unit, and how often that one hands it to copy_into.
+UNITS = {
+    'commit': (['commits::switch_tables', 'commits::store_header'], 1),
+    'commit_signed': (['commits::switch_signed', 'commits::store_signed'], 2),
+}
+SESSION_CALLS = ['begin', 'write', *UNITS]
 
 # The parameters of the public calls that are lent `&mut`, and what they are. Each function of container and each call of the C boundary is listed
 # where it has one.
@@ -26,12 +33,15 @@ LENT = {
     'container::sessions::begin': {1: 'image'},
     'container::sessions::write': {1: 'image'},
     'container::sessions::commit': {1: 'image'},
+    'container::sessions::commit_signed': {1: 'image'},
     'gateway::teplovist_open': {2: 'description'},
+    'gateway::teplovist_open_signed': {4: 'description'},
     'gateway::teplovist_read_committed': {4: 'buffer'},
     'gateway::teplovist_read_staged': {5: 'buffer'},
     'gateway::teplovist_begin': {1: 'image', 2: 'session'},
     'gateway::teplovist_write': {1: 'image'},
     'gateway::teplovist_commit': {1: 'image', 2: 'session'},
+    'gateway::teplovist_commit_signed': {1: 'image', 2: 'session'},
     'gateway::teplovist_abandon': {1: 'session'},
     'gateway::teplovist_signing_block': {3: 'block'},
     'gateway::teplovist_signing_digest': {3: 'digest'},
@@ -55,7 +65,7 @@ PINNED = {
         (*_6) = rvOpd(_4)
         _0 = rvOpd(unit)
         return''',
-    'steps::committing::store_header': '''
+    'commits::store_header': '''
         _3 = rvOpd(_2)
         _5 = &(*_1.0)
         _6 = aggregate(_5, _1.1)
@@ -64,7 +74,22 @@ PINNED = {
         _4 = number::runs::copy_into(_6, int 256, _8)
         _0 = rvOpd(unit)
         return''',
-    'number::runs::copy_into': '''
+    'commits::store_signed': '''
+        _4 = rvOpd(_2)
+        _5 = rvOpd(_3)
+        _7 = &(*_1.0)
+        _8 = aggregate(_7, _1.1)
+        _9 = &_4
+        _10 = aggregate(_9, int 16)
+        _6 = number::runs::copy_into(_8, int 0, _10)
+        _11 = &(*_1.0)
+        _12 = aggregate(_11, _1.1)
+        _13 = &_5
+        _14 = aggregate(_13, int 256)
+        _6 = number::runs::copy_into(_12, int 256, _14)
+        _0 = rvOpd(unit)
+        return''',
+    COPY: '''
         _4 = rvOpd(int 0)
         block
           loop
@@ -154,14 +179,14 @@ class Findings:
         root = f'gateway::teplovist_{name}'
         flows = Flows(self.program, root, 1)
         stores = {key: list(map(str, found)) for key, found in flows.stores().items()}
-        end = (HEADER_PATH[-1], frozenset([1])) if name == 'commit' else (STORE, frozenset([2]))
+        end = (COPY, frozenset([1])) if name in UNITS else (STORE, frozenset([2]))
         for key, found in stores.items():
             self.rule(key == end, f'{name}: the image is stored to by {key[0]}: {"; ".join(found)}')
         self.rule(len(stores.get(end, [])) == 1, f'{name}: expected one store statement in {end[0]}, found {stores.get(end, [])}')
         self.rule((f'container::sessions::{name}', frozenset([1])) in flows.flows, f'{root} does not hand its image to container::sessions::{name}')
         self.lent_whole(name, flows)
-        if name == 'commit':
-            self.header_path(flows, [root, 'container::sessions::commit', *HEADER_PATH])
+        if name in UNITS:
+            self.unit_path(name, flows, [root, f'container::sessions::{name}', *UNITS[name][0]])
         self.said.append(f'{name} hands the image on by &mut:')
         self.said += [f'    {a} -> {b}, {n} {"call" if n == 1 else "calls"}' for (a, b), n in sorted(flows.links().items())]
 
@@ -172,13 +197,15 @@ class Findings:
             good = len(lent) == 1 and not lent[0].steps and lent[0].local in whole
             self.rule(good, f'{name}: {caller} hands on something else than the whole image: {call}')
 
-    def header_path(self, flows, path):
-        """From commit on, each link to the header's store is one call, and none stands in a loop."""
-        for before, name in zip(path, path[1:]):
-            found = [f'{caller[0]}{" in a loop" if call.in_loop else ""}' for caller, call in flows.callers((name, frozenset([1])))]
-            self.rule(found == [before], f'commit: {name} is to have the image from one call, in {before} and in no loop; it has it from {found}')
-        links = sorted(flows.links())
-        self.rule(links == sorted(zip(path, path[1:])), f'commit: hands the image on by &mut beside the way to the header: {links}')
+    def unit_path(self, name, flows, path):
+        """From a commit on, each link to the store of its unit is one call, the last one as many as the unit has pieces, and none in a loop."""
+        links = [(before, after, 1) for before, after in zip(path, path[1:])] + [(path[-1], COPY, UNITS[name][1])]
+        for before, after, calls in links:
+            found = [f'{caller[0]}{" in a loop" if call.in_loop else ""}' for caller, call in flows.callers((after, frozenset([1])))]
+            wanted = 'one call' if calls == 1 else f'{calls} calls'
+            self.rule(found == [before] * calls, f'{name}: {after} is to have the image from {wanted}, in {before} and in no loop; it has it from {found}')
+        lent = sorted(flows.links())
+        self.rule(lent == sorted((before, after) for before, after, _ in links), f'{name}: hands the image on by &mut beside the way to its unit: {lent}')
 
     def reads(self):
         """No call that is lent an image by `&` stores to it."""
@@ -188,12 +215,13 @@ class Findings:
                 self.rule(not stores, f'{function.name}: stores to the image that it only reads, in {[key[0] for key in stores]}')
 
     def apart(self):
-        """Commit's stores are out of reach of begin and write, and theirs of commit."""
+        """The stores of a unit are out of reach of begin and write and of the other commit, and begin's and write's of both commits."""
         reached = {name: self.program.reached_from([f'gateway::teplovist_{name}']) for name in SESSION_CALLS}
-        self.rule(STORE not in reached['commit'], f'commit reaches {STORE}')
-        for name in ('begin', 'write'):
-            for step in HEADER_PATH[:-1]:
-                self.rule(step not in reached[name], f'{name} reaches {step}')
+        for name in SESSION_CALLS:
+            self.rule(name not in UNITS or STORE not in reached[name], f'{name} reaches {STORE}')
+            for other, (path, _) in UNITS.items():
+                for step in path if other != name else []:
+                    self.rule(step not in reached[name], f'{name} reaches {step}')
 
     # ---- the space that a store is given
 

@@ -1,11 +1,11 @@
 // The blocks that a signing box signs. The image is only read, and a refusal changes no lent byte.
 use layout::Outcome;
+use layout::headers::header_of;
 use signing::Built;
 use signing::Signer;
 use signing::answers::judge_signer;
 use signing::blocks::block_digest;
 use signing::blocks::build;
-use steps::committing::header_of;
 ghost use mathlib.Core.Path.{_≡_};
 ghost use Rattle.signing.specs.Calls.{signed, outcomeOf, builtAs, blockLeft, digestLeft};
 

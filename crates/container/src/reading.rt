@@ -2,6 +2,7 @@
 use layout::Opened;
 use layout::Outcome;
 use layout::Refusal;
+use signing::Signer;
 use steps::Count;
 use steps::Session;
 use steps::Verdict;
@@ -14,6 +15,7 @@ use views::places::committed_view;
 use views::places::staged_view;
 ghost use mathlib.Core.Path.{_≡_};
 ghost use Rattle.layout.specs.Opening.{opened};
+ghost use Rattle.signatures.specs.Signatures.{openedSigned};
 ghost use Rattle.steps.specs.Calls.{readCommitted, readStaged, isVerified, countVerified};
 
 // Every field of the image that opening reads, or the first refusal of 1 to 7 that applies.
@@ -21,6 +23,13 @@ pub fn open(image: &[u8]) -> Opened
     ensures { λ r. ⌜ r ≡ opened (now (image .entry)) ⌝ }
 {
     layout::opening::open(image)
+}
+
+// The same of an image that is signed: 15 and 16 come after 3, before 4.
+pub fn open_signed(image: &[u8], key: [u8; 16], signer: Signer) -> Opened
+    ensures { λ r. ⌜ r ≡ openedSigned (now (image .entry)) key signer ⌝ }
+{
+    signatures::open_signed(image, key, signer)
 }
 
 // Fills the whole buffer with bytes of a partition's level 4 from a place on, as the active table has it.

@@ -1,15 +1,18 @@
 // The calls on a session. Whatever session value is handed in, only commit changes a byte that the committed view rests on.
+use commits::switch_signed;
+use commits::switch_tables;
 use layout::Opened;
 use layout::Outcome;
 use layout::Refusal;
+use layout::headers::header_of;
 use layout::opening::open;
+use signing::Signer;
+use signing::answers::judge_signer;
 use steps::Session;
 use steps::Step;
 use steps::answers::has_partition;
 use steps::answers::refusal_of;
 use steps::beginning::stage_image;
-use steps::committing::header_of;
-use steps::committing::switch_tables;
 use steps::staleness::is_current;
 use steps::writing::refused;
 use steps::writing::write_partition;
@@ -86,6 +89,34 @@ pub fn commit(image: &mut [u8], session: Session) -> Step
         return refused(session, Refusal::Stale);
     }
     switch_tables(image, c);
+    Step {
+        outcome: Outcome::Accepted,
+        session: new(),
+    }
+}
+
+// The same with a signature: that of the new header, under a key, is stored with it.
+pub fn commit_signed(image: &mut [u8], session: Session, key: [u8; 16], signer: Signer) -> Step
+    ensures { λ r. ⌜ Stepped r (now (image .exit)) (calls.commitSigned (now (image .entry)) session key signer) ⌝ }
+{
+    let answer = open(image);
+    let Opened::Valid(c) = answer else {
+        return refused(session, refusal_of(answer));
+    };
+    if !session.begun {
+        return refused(session, Refusal::SessionState);
+    }
+    if !is_current(image, c, session) {
+        return refused(session, Refusal::Stale);
+    }
+    let fit = judge_signer(image, signer);
+    let Outcome::Accepted = fit else {
+        return Step {
+            outcome: fit,
+            session,
+        };
+    };
+    switch_signed(image, c, key, signer);
     Step {
         outcome: Outcome::Accepted,
         session: new(),

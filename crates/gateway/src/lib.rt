@@ -23,6 +23,7 @@ ghost use mathlib.Core.Path.{_≡_};
 ghost use Rattle.layout.specs.Opening.{opened};
 ghost use Rattle.sha256.specs.Running.{stateOf, fresh};
 ghost use Rattle.signing.specs.Calls.{signed, outcomeOf, builtAs, blockLeft, digestLeft};
+ghost use Rattle.signatures.specs.Signatures.{openedSigned};
 ghost use Rattle.steps.specs.Calls as calls;
 ghost use Rattle.boundary.specs.Boundary.{outcomeAnswer, verdictAnswer, countAnswer, openedAnswer, descriptionLeft, sessionOf, sessionLeft, Called};
 ghost use Rattle.boundary.specs.Digests.{runningOf, FedBytes, FinishedBytes};
@@ -34,6 +35,24 @@ pub extern "C" fn teplovist_open(image: &[u8], numbers: &mut [u64; 80]) -> u64
     ensures { λ r. ⌜ (r ≡ openedAnswer (opened (now (image .entry)))) × (now (numbers .exit) ≡ descriptionLeft (opened (now (image .entry))) (now (numbers .entry))) ⌝ }
 {
     let answer = reading::open(image);
+    let before = *numbers;
+    *numbers = description_left(answer, before);
+    opened_answer(answer)
+}
+
+// The same of an image that is signed under a key.
+#[no_mangle]
+pub extern "C" fn teplovist_open_signed(
+    image: &[u8],
+    key: &[u8; 16],
+    signer: &[u64; 4],
+    numbers: &mut [u64; 80],
+) -> u64
+    ensures { λ r. ⌜ (r ≡ openedAnswer (openedSigned (now (image .entry)) (now (key .entry)) (signerOf (now (signer .entry))))) × (now (numbers .exit) ≡ descriptionLeft (openedSigned (now (image .entry)) (now (key .entry)) (signerOf (now (signer .entry)))) (now (numbers .entry))) ⌝ }
+{
+    let secret = *key;
+    let signed_as = *signer;
+    let answer = reading::open_signed(image, secret, signer_of(signed_as));
     let before = *numbers;
     *numbers = description_left(answer, before);
     opened_answer(answer)
@@ -119,6 +138,30 @@ pub extern "C" fn teplovist_commit(image: &mut [u8], session: &mut [u8; 257]) ->
 {
     let before = *session;
     let committed = sessions::commit(image, session_of(before));
+    *session = session_left(committed, before);
+    let outcome = committed.outcome;
+    outcome_answer(outcome)
+}
+
+// The same with the signature of the new header, under a key.
+#[no_mangle]
+pub extern "C" fn teplovist_commit_signed(
+    image: &mut [u8],
+    session: &mut [u8; 257],
+    key: &[u8; 16],
+    signer: &[u64; 4],
+) -> u64
+    ensures { λ r. ⌜ Called r (now (image .exit)) (now (session .entry)) (now (session .exit)) (calls.commitSigned (now (image .entry)) (sessionOf (now (session .entry))) (now (key .entry)) (signerOf (now (signer .entry)))) ⌝ }
+{
+    let before = *session;
+    let secret = *key;
+    let signed_as = *signer;
+    let committed = sessions::commit_signed(
+        image,
+        session_of(before),
+        secret,
+        signer_of(signed_as),
+    );
     *session = session_left(committed, before);
     let outcome = committed.outcome;
     outcome_answer(outcome)

@@ -21,10 +21,14 @@ use Rattle.layout.specs.declared.Outcome.{Outcome}
 use Rattle.layout.specs.declared.Outcome.the-variants as outcome
 use Rattle.steps.specs.declared.Session.{Session}
 use Rattle.steps.specs.Reading.{refuseOutside}
-use Rattle.steps.specs.Sessions.{idle, begunImage, current, writeOutcome, committedImage}
-use Rattle.steps.specs.Calls.{After, unchanged, done, leaving, begin, beginIn, write, writeIn, commit, commitIn, abandon, Abandoned, readStaged, readStagedIn}
-use Rattle.history.specs.Model.{Call, Open, ReadCommitted, ReadStaged, IsVerified, CountVerified, SigningBlock, SigningDigest, Begin, Write, Commit, Abandon, Ruling, Accepted, Refused, rulingOf}
-use Rattle.history.specs.Run.{State, perform, ruled, next}
+use Rattle.steps.specs.Sessions.{idle, begunImage, current, writeOutcome}
+use Rattle.signing.specs.declared.Signer.{Signer}
+use Rattle.signing.specs.Calls.{Answer, Signs, signed}
+use Rattle.signing.specs.Calls as signing
+use Rattle.commits.specs.Committing.{committedImage, committedSigned}
+use Rattle.steps.specs.Calls.{After, unchanged, done, leaving, begin, beginIn, inSession, writeTo, writeOn, write, commitOn, commit, commitBy, commitSigned, abandon, Abandoned}
+use Rattle.history.specs.Model.{Form, Plain, Signed, Call, Ask, Begin, Write, Commit, Abandon, Ruling, Accepted, Refused, rulingOf}
+use Rattle.history.specs.Run.{State, committedAs, perform, ruled, next}
 
 pub not-both : {B : Type 0} {r : Ruling} → r ≡ Accepted → r ≡ Refused → B
 not-both a r = let z : _≡_ {A = ℕ} 0 1 = cc in absurd (omega arith)
@@ -69,37 +73,45 @@ kept-begin st (opening.Valid c) =
     kept-cond (st .session .begun) st (unchanged (st .image) (st .session) SessionState)
     (done (begunImage c (st .image)) (record { begun = true; header = headerBytes (st .image) })) (λ e. refl) (kept-done st _ _)
 
-kept-write : (st : State) (q place : ℕ) (bytes : List ℕ) (o : Opened) → Kept st (writeIn (st .image) (st .session) q place bytes o)
-kept-write st q place bytes (opening.Refused r) = λ e. refl
-kept-write st q place bytes (opening.Valid c) =
-    kept-cond (st .session .begun) st _ _
-    (kept-cond (current c (st .image) (st .session)) st _ _
-    (kept-cond (ltb q (partitions c)) st _ _
+-- the calls of a begun session
+kept-session : (st : State) (next : Container → After) → ((c : Container) → Kept st (next c)) → (o : Opened) → Kept st (inSession (st .image) (st .session) next o)
+kept-session st next k (opening.Refused r) = λ e. refl
+kept-session st next k (opening.Valid c) =
+    kept-cond (st .session .begun) st _ _ (kept-cond (current c (st .image) (st .session)) st _ _ (k c) (λ e. refl)) (λ e. refl)
+
+kept-write : (st : State) (q place : ℕ) (bytes : List ℕ) (c : Container) → Kept st (writeOn (st .image) (st .session) q place bytes c)
+kept-write st q place bytes c =
+    kept-cond (ltb q (partitions c)) st _ _
     (kept-cond (stagedView c q .external) st _ _ (λ e. refl)
     (kept-leaving st (writeOutcome (stagedView c q) (st .image) place (length bytes)) _))
-    (λ e. refl))
-    (λ e. refl))
     (λ e. refl)
 
-kept-commit : (st : State) (o : Opened) → Kept st (commitIn (st .image) (st .session) o)
-kept-commit st (opening.Refused r) = λ e. refl
-kept-commit st (opening.Valid c) =
-    kept-cond (st .session .begun) st _ _
-    (kept-cond (current c (st .image) (st .session)) st _ _ (kept-done st (committedImage c (st .image)) idle) (λ e. refl))
-    (λ e. refl)
+-- what a commit of either form does once its session may go on
+abbrev commitNext : Form → State → Container → After
+commitNext Plain st = commitOn (st .image)
+commitNext (Signed key signer) st = commitBy (st .image) (st .session) key signer (signed (st .image) signer)
+
+commit-is : (form : Form) (st : State) → committedAs form st ≡ inSession (st .image) (st .session) (commitNext form st) (opened (st .image))
+unfolding commit commitSigned
+commit-is Plain st = refl
+commit-is (Signed key signer) st = refl
+
+kept-commit : (form : Form) (st : State) (c : Container) → Kept st (commitNext form st c)
+kept-commit Plain st c = kept-done st (committedImage c (st .image)) idle
+kept-commit (Signed key signer) st c = by (signed (st .image) signer)
+  where
+    by : (a : Answer) → Kept st (commitBy (st .image) (st .session) key signer a c)
+    by (Signs block) = kept-done st (committedSigned c (st .image) key signer) idle
+    by (signing.Refused r) = λ e. refl
 
 pub refused : (c : Call) (st : State) → ruled c st ≡ Refused → next c st ≡ st
-unfolding perform begin write commit abandon
-refused Open st e = refl
-refused (ReadCommitted q place buffer) st e = refl
-refused (ReadStaged q place buffer) st e = refl
-refused (IsVerified q b) st e = refl
-refused (CountVerified q) st e = refl
-refused (SigningBlock signer buffer) st e = refl
-refused (SigningDigest signer buffer) st e = refl
+unfolding perform begin write abandon
+refused (Ask query) st e = refl
 refused Begin st e = kept-begin st (opened (st .image)) e
-refused (Write q place bytes) st e = kept-write st q place bytes (opened (st .image)) e
-refused Commit st e = kept-commit st (opened (st .image)) e
+refused (Write q place bytes) st e =
+    kept-session st (writeOn (st .image) (st .session) q place bytes) (kept-write st q place bytes) (opened (st .image)) e
+refused (Commit form) st e =
+    subst (Kept st) (sym (commit-is form st)) (kept-session st (commitNext form st) (kept-commit form st) (opened (st .image))) e
 refused Abandon st e = by (st .session .begun) e
   where
     by : (t : Bool) → rulingOf ((cond {A = Abandoned} t (record { outcome = outcome.Accepted; session = idle }) (record { outcome = outcome.Refused SessionState; session = st .session })) .outcome) ≡ Refused
@@ -110,42 +122,24 @@ refused Abandon st e = by (st .session .begun) e
 -- ---- an idle session refuses the calls that need a begun one
 
 abbrev pub needsBegun : Call → Bool
-needsBegun Open = false
-needsBegun (ReadCommitted q place buffer) = false
-needsBegun (ReadStaged q place buffer) = true
-needsBegun (IsVerified q b) = false
-needsBegun (CountVerified q) = false
-needsBegun (SigningBlock signer buffer) = false
-needsBegun (SigningDigest signer buffer) = false
+needsBegun (Ask query) = false
 needsBegun Begin = false
 needsBegun (Write q place bytes) = true
-needsBegun Commit = true
+needsBegun (Commit form) = true
 needsBegun Abandon = true
 
+idle-session : (image : List ℕ) (session : Session) (next : Container → After) → session .begun ≡ false → (o : Opened)
+    → rulingOf (inSession image session next o .outcome) ≡ Refused
+idle-session image session next i (opening.Refused r) = refl
+idle-session image session next i (opening.Valid c) = rw i
+
 pub idles : (c : Call) (st : State) → needsBegun c ≡ true → st .session .begun ≡ false → ruled c st ≡ Refused
-unfolding perform readStaged write commit abandon
-idles Open st n i = absurd (true≢false (sym n))
-idles (ReadCommitted q place buffer) st n i = absurd (true≢false (sym n))
-idles (ReadStaged q place buffer) st n i = by (opened (st .image))
-  where
-    by : (o : Opened) → rulingOf (readStagedIn (st .image) (st .session) q place buffer o .outcome) ≡ Refused
-    by (opening.Refused r) = refl
-    by (opening.Valid c) = rw i
-idles (IsVerified q b) st n i = absurd (true≢false (sym n))
-idles (CountVerified q) st n i = absurd (true≢false (sym n))
-idles (SigningBlock signer buffer) st n i = absurd (true≢false (sym n))
-idles (SigningDigest signer buffer) st n i = absurd (true≢false (sym n))
+unfolding perform write abandon
+idles (Ask query) st n i = absurd (true≢false (sym n))
 idles Begin st n i = absurd (true≢false (sym n))
-idles (Write q place bytes) st n i = by (opened (st .image))
-  where
-    by : (o : Opened) → rulingOf (writeIn (st .image) (st .session) q place bytes o .outcome) ≡ Refused
-    by (opening.Refused r) = refl
-    by (opening.Valid c) = rw i
-idles Commit st n i = by (opened (st .image))
-  where
-    by : (o : Opened) → rulingOf (commitIn (st .image) (st .session) o .outcome) ≡ Refused
-    by (opening.Refused r) = refl
-    by (opening.Valid c) = rw i
+idles (Write q place bytes) st n i = idle-session (st .image) (st .session) (writeOn (st .image) (st .session) q place bytes) i (opened (st .image))
+idles (Commit form) st n i =
+    ap (λ (a : After). rulingOf (a .outcome)) (commit-is form st) ∙ idle-session (st .image) (st .session) (commitNext form st) i (opened (st .image))
 idles Abandon st n i = rw i
 
 -- ---- what an accepted call was
@@ -179,6 +173,21 @@ module _ (image : List ℕ) (session : Session) (c : Container) (o : opened imag
       (subst (λ (x : Opened). rulingOf (beginIn image session x .outcome) ≡ Accepted) o e) in
       record { idle = t .0; after = ap (beginIn image session) o ∙ t .1 }
 
+  -- a call of a begun session that is accepted passed 13 and 14
+  pub record Reached (next : Container → After) : Type 0 where
+    pub begun : session .begun ≡ true
+    pub current : current c image session ≡ true
+    pub after : inSession image session next (opened image) ≡ next c
+    pub accepted : rulingOf (next c .outcome) ≡ Accepted
+
+  pub reached-by : (next : Container → After) → rulingOf (inSession image session next (opened image) .outcome) ≡ Accepted → Reached next
+  reached-by next e =
+      let d = cond (current c image session) (next c) (unchanged image session Stale) in
+      let t1 = took (session .begun) d (unchanged image session SessionState) refl
+      (subst (λ (x : Opened). rulingOf (inSession image session next x .outcome) ≡ Accepted) o e) in
+      let t2 = took (current c image session) (next c) (unchanged image session Stale) refl (t1 .2) in
+      record { begun = t1 .0; current = t2 .0; after = ap (inSession image session next) o ∙ t1 .1 ∙ t2 .1; accepted = t2 .2 }
+
   pub record Written (q place : ℕ) (bytes : List ℕ) : Type 0 where
     pub begun : session .begun ≡ true
     pub current : current c image session ≡ true
@@ -191,64 +200,78 @@ module _ (image : List ℕ) (session : Session) (c : Container) (o : opened imag
   unfolding write stagedView viewIn
   written-by q place bytes e =
       let v = stagedView c q in
+      let r = reached-by (writeOn image session q place bytes) e in
       let d = leaving (writeOutcome v image place (length bytes)) image (writtenTo v place bytes image) session in
       let d4 = cond (v .external) (unchanged image session ExternalLevel) d in
-      let d3 = cond (ltb q (partitions c)) d4 (unchanged image session NoPartition) in
-      let d2 = cond (current c image session) d3 (unchanged image session Stale) in
-      let t1 = took (session .begun) d2 (unchanged image session SessionState) refl
-      (subst (λ (x : Opened). rulingOf (writeIn image session q place bytes x .outcome) ≡ Accepted) o e) in
-      let t2 = took (current c image session) d3 (unchanged image session Stale) refl (t1 .2) in
-      let t3 = took (ltb q (partitions c)) d4 (unchanged image session NoPartition) refl (t2 .2) in
+      let t3 = took (ltb q (partitions c)) d4 (unchanged image session NoPartition) refl (r .accepted) in
       let t4 = took-not (v .external) (unchanged image session ExternalLevel) d refl (t3 .2) in
       let t5 = took-leaving (writeOutcome v image place (length bytes)) image (writtenTo v place bytes image) session (t4 .2) in
       record {
-        begun = t1 .0;
-        current = t2 .0;
+        begun = r .begun;
+        current = r .current;
         there = ltb-true q (partitions c) (t3 .0);
         internal = t4 .0;
         allowed = t5 .0;
-        after = ap (writeIn image session q place bytes) o ∙ t1 .1 ∙ t2 .1 ∙ t3 .1 ∙ t4 .1 ∙ t5 .1;
+        after = r .after ∙ t3 .1 ∙ t4 .1 ∙ t5 .1;
       }
 
-  pub record Committed : Type 0 where
-    pub begun : session .begun ≡ true
-    pub current : current c image session ≡ true
-    pub after : commit image session ≡ done (committedImage c image) idle
+-- the image that a commit of either form leaves
+abbrev pub landedImage : Form → Container → List ℕ → List ℕ
+landedImage Plain c image = committedImage c image
+landedImage (Signed key signer) c image = committedSigned c image key signer
 
-  pub committed-by : rulingOf (commit image session .outcome) ≡ Accepted → Committed
-  unfolding commit
-  committed-by e =
-      let d = cond (current c image session) (done (committedImage c image) idle) (unchanged image session Stale) in
-      let t1 = took (session .begun) d (unchanged image session SessionState) refl
-      (subst (λ (x : Opened). rulingOf (commitIn image session x .outcome) ≡ Accepted) o e) in
-      let t2 = took (current c image session) (done (committedImage c image) idle) (unchanged image session Stale) refl (t1 .2) in
-      record { begun = t1 .0; current = t2 .0; after = ap (commitIn image session) o ∙ t1 .1 ∙ t2 .1 }
+pub record Committed (form : Form) (st : State) (c : Container) : Type 0 where
+  pub begun : st .session .begun ≡ true
+  pub current : current c (st .image) (st .session) ≡ true
+  pub after : committedAs form st ≡ done (landedImage form c (st .image)) idle
+
+-- a signed commit that is accepted has its block
+took-signed : (image : List ℕ) (session : Session) (key : List ℕ) (signer : Signer) (c : Container) (a : Answer)
+    → rulingOf (commitBy image session key signer a c .outcome) ≡ Accepted
+    → commitBy image session key signer a c ≡ done (committedSigned c image key signer) idle
+took-signed image session key signer c (Signs block) e = refl
+took-signed image session key signer c (signing.Refused r) e = not-both e refl
+
+pub committed-by : (form : Form) (st : State) (c : Container) → opened (st .image) ≡ opening.Valid c → ruled (Commit form) st ≡ Accepted → Committed form st c
+unfolding perform
+committed-by form st c o e =
+    let r = reached-by (st .image) (st .session) c o (commitNext form st) (sym (ap (λ (a : After). rulingOf (a .outcome)) (commit-is form st)) ∙ e) in
+    record { begun = r .begun; current = r .current; after = commit-is form st ∙ r .after ∙ lands form (r .accepted) }
+  where
+    lands : (f : Form) → rulingOf (commitNext f st c .outcome) ≡ Accepted → commitNext f st c ≡ done (landedImage f c (st .image)) idle
+    lands Plain a = refl
+    lands (Signed key signer) a = took-signed (st .image) (st .session) key signer c (signed (st .image) signer) a
+
+pub signed-first : (key : List ℕ) (signer : Signer) (st : State) (c : Container) → opened (st .image) ≡ opening.Valid c
+    → ruled (Commit (Signed key signer)) st ≡ Accepted → (block : List ℕ) × (signed (st .image) signer ≡ Signs block)
+unfolding perform
+signed-first key signer st c o e =
+    let r = reached-by (st .image) (st .session) c o (commitNext (Signed key signer) st)
+    (sym (ap (λ (a : After). rulingOf (a .outcome)) (commit-is (Signed key signer) st)) ∙ e) in
+    by (signed (st .image) signer) refl (r .accepted)
+  where
+    by : (a : Answer) → signed (st .image) signer ≡ a → rulingOf (commitBy (st .image) (st .session) key signer a c .outcome) ≡ Accepted
+        → (block : List ℕ) × (signed (st .image) signer ≡ Signs block)
+    by (Signs block) k e = (block, k)
+    by (signing.Refused r) k e = not-both e refl
 
 -- no call changes an image that does not open
+unopened-session : (image : List ℕ) (session : Session) (next : Container → After) (o : Opened) → opened image ≡ o
+    → ((c : Container) → opened image ≡ opening.Valid c → ⊥) → inSession image session next o .image ≡ image
+unopened-session image session next (opening.Valid c) e h = absurd (h c e)
+unopened-session image session next (opening.Refused r) e h = refl
+
 pub unopened : (call : Call) (st : State) → ((c : Container) → opened (st .image) ≡ opening.Valid c → ⊥) → next call st .image ≡ st .image
-unfolding perform begin write commit
-unopened Open st h = refl
-unopened (ReadCommitted q place buffer) st h = refl
-unopened (ReadStaged q place buffer) st h = refl
-unopened (IsVerified q b) st h = refl
-unopened (CountVerified q) st h = refl
-unopened (SigningBlock signer buffer) st h = refl
-unopened (SigningDigest signer buffer) st h = refl
+unfolding perform begin write
+unopened (Ask query) st h = refl
 unopened Begin st h = by (opened (st .image)) refl
   where
     by : (o : Opened) → opened (st .image) ≡ o → beginIn (st .image) (st .session) o .image ≡ st .image
     by (opening.Valid c) e = absurd (h c e)
     by (opening.Refused r) e = refl
-unopened (Write q place bytes) st h = by (opened (st .image)) refl
-  where
-    by : (o : Opened) → opened (st .image) ≡ o → writeIn (st .image) (st .session) q place bytes o .image ≡ st .image
-    by (opening.Valid c) e = absurd (h c e)
-    by (opening.Refused r) e = refl
-unopened Commit st h = by (opened (st .image)) refl
-  where
-    by : (o : Opened) → opened (st .image) ≡ o → commitIn (st .image) (st .session) o .image ≡ st .image
-    by (opening.Valid c) e = absurd (h c e)
-    by (opening.Refused r) e = refl
+unopened (Write q place bytes) st h = unopened-session (st .image) (st .session) (writeOn (st .image) (st .session) q place bytes) (opened (st .image)) refl h
+unopened (Commit form) st h =
+    ap (λ (a : After). a .image) (commit-is form st) ∙ unopened-session (st .image) (st .session) (commitNext form st) (opened (st .image)) refl h
 unopened Abandon st h = refl
 
 pub abandoned-by : (session : Session) → rulingOf (abandon session .outcome) ≡ Accepted → (session .begun ≡ true) × (abandon session .session ≡ idle)
@@ -266,15 +289,18 @@ pub idle-rests : idle .begun ≡ false
 unfolding idle
 idle-rests = refl
 
--- an accepted commit leaves an idle session
-pub idle-after : (st : State) → ruled Commit st ≡ Accepted → next Commit st .session .begun ≡ false
-unfolding perform commit
-idle-after st e = by (opened (st .image)) e
+-- an accepted commit is one of an image that opens, and leaves an idle session
+pub opens-first : (form : Form) (st : State) → ruled (Commit form) st ≡ Accepted → (c : Container) × (opened (st .image) ≡ opening.Valid c)
+unfolding perform
+opens-first form st e = by (opened (st .image)) refl (sym (ap (λ (a : After). rulingOf (a .outcome)) (commit-is form st)) ∙ e)
   where
-    by : (o : Opened) → rulingOf (commitIn (st .image) (st .session) o .outcome) ≡ Accepted → commitIn (st .image) (st .session) o .session .begun ≡ false
-    by (opening.Refused r) e = not-both e refl
-    by (opening.Valid c) e =
-        let d = cond (current c (st .image) (st .session)) (done (committedImage c (st .image)) idle) (unchanged (st .image) (st .session) Stale) in
-        let t1 = took (st .session .begun) d (unchanged (st .image) (st .session) SessionState) refl e in
-        let t2 = took (current c (st .image) (st .session)) (done (committedImage c (st .image)) idle) (unchanged (st .image) (st .session) Stale) refl (t1 .2) in
-        ap (λ (a : After). a .session .begun) (t1 .1 ∙ t2 .1) ∙ idle-rests
+    by : (o : Opened) → opened (st .image) ≡ o → rulingOf (inSession (st .image) (st .session) (commitNext form st) o .outcome) ≡ Accepted
+        → (c : Container) × (opened (st .image) ≡ opening.Valid c)
+    by (opening.Valid c) o e = (c, o)
+    by (opening.Refused r) o e = not-both e refl
+
+pub idle-after : (form : Form) (st : State) → ruled (Commit form) st ≡ Accepted → next (Commit form) st .session .begun ≡ false
+unfolding perform
+idle-after form st e =
+    let (c, o) = opens-first form st e in
+    ap (λ (a : After). a .session .begun) (committed-by form st c o e .after) ∙ idle-rests

@@ -2,24 +2,29 @@
 use mathlib.Core.Path.{_≡_}
 use mathlib.Core.Bool.{true, false}
 use mathlib.Core.List.{List}
-use Prim.Native.Nat.{ℕ, _<_}
-use lib.ListN.{length}
+use Prim.Native.Nat.{ℕ, _≤_, _<_}
+use lib.ListN.{length, getD}
 use Rattle.layout.specs.declared.Container.{Container}
 use Rattle.layout.specs.declared.Opened.the-variants as opening
 use Rattle.layout.specs.Headers.{headerBytes}
 use Rattle.layout.specs.Opening.{opened}
+use Rattle.number.specs.Ranges.{part}
+use Rattle.signatures.specs.Signatures.{signatureRange}
 use Rattle.dpfs.specs.Free.{Free}
 use Rattle.update.specs.Staged.{writtenTo}
 use Rattle.views.specs.Places.{partitions, partitionOf, committedView, stagedView, spaceOf}
 use Rattle.layout.specs.declared.Outcome.the-variants as outcome
-use Rattle.steps.specs.Sessions.{begunImage, tableStaged, writeOutcome, committedImage}
-use Rattle.history.specs.Model.{versionOf, laidOver}
+use Rattle.steps.specs.Sessions.{begunImage, tableStaged, writeOutcome}
+use Rattle.commits.specs.Committing.{headerCommitted}
+use Rattle.history.specs.Model.{versionOf, laidOver, Form}
 use Rattle.history.specs.Theorem.{Left}
+use Rattle.history.proofs.CallCases.{landedImage}
 
--- an image that differs from another in free bytes only opens alike, has the same header and the same committed views, and no more free bytes
+-- an image that differs from another in free bytes only opens alike, has the same header, signature and committed views, and no more free bytes
 pub record FrameLaws (c : Container) (image left : List ℕ) : Type 0 where
   pub opens : opened left ≡ opening.Valid c
   pub header : headerBytes left ≡ headerBytes image
+  pub front : part left signatureRange ≡ part image signatureRange
   pub free : (i : ℕ) → Free (spaceOf c) left i → Free (spaceOf c) image i
   pub version : (q : ℕ) → q < partitions c → versionOf (committedView c q) left ≡ versionOf (committedView c q) image
 
@@ -37,13 +42,20 @@ pub record WriteLaws (c : Container) (q place : ℕ) (bytes image after : List �
   pub version : versionOf (stagedView c q) after ≡ laidOver place bytes (versionOf (stagedView c q) image)
   pub others : (p : ℕ) → p < partitions c → (q ≡ p → ⊥) → versionOf (stagedView c p) after ≡ versionOf (stagedView c p) image
 
--- the image that a commit leaves opens with the same partitions, and commits what was staged
-pub record CommitLaws (c : Container) (image : List ℕ) : Type 0 where
+-- what a commit of either form leaves: the new header, and past the first 0x200 bytes every byte as it was
+pub record Headed (c : Container) (image after : List ℕ) : Type 0 where
+  pub size : length after ≡ length image
+  pub header : headerBytes after ≡ headerCommitted c image
+  pub rest : (i : ℕ) → 0x200 ≤ i → getD after i 0 ≡ getD image i 0
+
+-- such an image opens with the same partitions, and commits what was staged
+pub record CommitLaws (c : Container) (image after : List ℕ) : Type 0 where
   pub container : Container
-  pub opens : opened (committedImage c image) ≡ opening.Valid container
+  pub opens : opened after ≡ opening.Valid container
+  pub kind : container .header .kind ≡ c .header .kind
   pub count : partitions container ≡ partitions c
   pub internal : (q : ℕ) → q < partitions c → partitionOf container q .difi .external ≡ partitionOf c q .difi .external
-  pub version : (q : ℕ) → q < partitions c → versionOf (committedView container q) (committedImage c image) ≡ versionOf (stagedView c q) image
+  pub version : (q : ℕ) → q < partitions c → versionOf (committedView container q) after ≡ versionOf (stagedView c q) image
 
 pub record CallLaws : Type 0 where
   pub frame : (image left : List ℕ) (c : Container) → opened image ≡ opening.Valid c → Left c image left → FrameLaws c image left
@@ -51,4 +63,7 @@ pub record CallLaws : Type 0 where
   pub write : (image : List ℕ) (c : Container) → opened image ≡ opening.Valid c → (q place : ℕ) (bytes : List ℕ) → q < partitions c
       → partitionOf c q .difi .external ≡ false → writeOutcome (stagedView c q) image place (length bytes) ≡ outcome.Accepted
       → WriteLaws c q place bytes image (writtenTo (stagedView c q) place bytes image)
-  pub commit : (image : List ℕ) (c : Container) → opened image ≡ opening.Valid c → tableStaged c image ≡ true → CommitLaws c image
+  pub commit : (image : List ℕ) (c : Container) → opened image ≡ opening.Valid c → tableStaged c image ≡ true
+      → (after : List ℕ) → Headed c image after → CommitLaws c image after
+  -- a commit of either form leaves such an image
+  pub units : (image : List ℕ) (c : Container) → opened image ≡ opening.Valid c → (form : Form) → Headed c image (landedImage form c image)

@@ -6,6 +6,7 @@ use mathlib.Core.List.{List}
 use mathlib.Core.Logic.{_⊎_, inl, inr}
 use Prim.Native.Nat.{ℕ, zero, suc, _+_, _-_, _≤_, _<_}
 use native.Mathlib.Omega.{arith}
+use native.Mathlib.Decide.{decLt}
 use lib.ListN.{length, getD}
 use lib.Seq.{length-sets, ext-getD}
 use lib.Dec.{eqb}
@@ -28,7 +29,7 @@ use Rattle.layout.specs.declared.Slot.{Slot}
 use Rattle.layout.specs.declared.Opened.the-variants as opening
 use Rattle.layout.specs.declared.JudgedHeader.the-variants.{GoodHeader}
 use Rattle.layout.specs.declared.JudgedPartition.the-variants.{GoodPartition}
-use Rattle.layout.specs.Headers.{headerRange, headerBytes, hashRange, judgedHeader}
+use Rattle.layout.specs.Headers.{front, headerRange, headerBytes, hashRange, judgedHeader}
 use Rattle.layout.specs.Tables.{active, inactive, tableMatches}
 use Rattle.layout.specs.Descriptors.{difiFields, partitionFields}
 use Rattle.layout.specs.Opening.{opened, lengthAllowed, judgedSlot}
@@ -41,9 +42,10 @@ use Rattle.dpfs.proofs.SpareLaws.{Avoids, avoided-content}
 use Rattle.ivfc.specs.declared.View.{View}
 use Rattle.views.specs.Places.{partitions, secondOr, slotOf, partitionOf, treeIn, treeOf, masterIn, viewIn, committedView, stagedView}
 use Rattle.views.proofs.PlaceLaws.{first-there, inactive-table, tree-inside, tree-rules, staged-rules, staged-master}
-use Rattle.steps.specs.Sessions.{stagedTable, inSomeMaster, tableStaged, headerCommitted, committedImage}
+use Rattle.steps.specs.Sessions.{stagedTable, inSomeMaster, tableStaged}
+use Rattle.commits.specs.Committing.{headerCommitted}
 use Rattle.history.specs.Model.{versionOf}
-use Rattle.history.proofs.CallLaws.{CommitLaws}
+use Rattle.history.proofs.CallLaws.{Headed, CommitLaws}
 use Rattle.history.proofs.Seen.{SameSeen, same-version}
 use Rattle.history.proofs.Flips.{partitionFlipped, Restaged, flipped-judged, headerFlipped, reheaded-size, reheaded-hash, flipped-header}
 use Rattle.history.proofs.Tables.{length-of, byte-of, place-of, off-masters, off-selectors, active-bytes, staged-other, staged-own, not-in-master, staged-byte}
@@ -81,52 +83,34 @@ other-half selector h = by (zero-or-one selector h)
     by (inl e) = rw e
     by (inr e) = rw e
 
-module _ (image : List ℕ) (c : Container) (o : opened image ≡ opening.Valid c) (staged : tableStaged c image ≡ true) where
+module _ (image : List ℕ) (c : Container) (o : opened image ≡ opening.Valid c) (staged : tableStaged c image ≡ true)
+    (after : List ℕ) (headed : Headed c image after) where
   g : Guarantees image c
   g = guarantees image c o
 
   abbrev S : List ℕ
   S = part image (inactive (c .header))
 
-  abbrev after : List ℕ
-  after = committedImage c image
-
   -- ---- the bytes
 
   header-size : length (headerBytes image) ≡ 256
   header-size = let n = g .shortest in length-of image headerRange (omega arith)
 
-  new-size : length (headerCommitted c image) ≡ 256
-  unfolding headerCommitted
-  new-size = reheaded-size (c .header .kind) (1 - c .header .flag) (sha256 S) (headerBytes image) header-size (length-sha256 S) ∙ header-size
-
-  after-size : length after ≡ length image
-  unfolding committedImage
-  after-size = length-sets image 0x100 (headerCommitted c image)
-
-  after-out : (i : ℕ) → 0x200 ≤ i → getD after i 0 ≡ getD image i 0
-  unfolding committedImage
-  after-out i h = let n = new-size in sets-out image 0x100 (headerCommitted c image) i (inr (omega arith))
-
-  after-header : headerBytes after ≡ headerCommitted c image
-  unfolding committedImage
-  after-header =
-      let n = new-size in
-      let m = g .shortest in
-      let l = after-size in
-      let k : length (headerBytes after) ≡ 256 = length-of after headerRange (omega arith) in
-      ext-getD 0 (headerBytes after) (headerCommitted c image) (k ∙ sym n)
-      (λ i h. byte-of after headerRange i (omega arith) ∙ sets-in image 0x100 (headerCommitted c image) i (omega arith) (omega arith))
-
-  after-keeps : Keeps (InRange headerRange) image after
-  unfolding committedImage
-  after-keeps = let n = new-size in keeps-sets (InRange headerRange) image 0x100 (headerCommitted c image) (λ i h. (omega arith, omega arith))
+  after-keeps : Keeps (InRange front) image after
+  after-keeps = record { size = headed .size; bytes = λ i f. headed .rest i (past-front i f) }
+    where
+      past-front : (i : ℕ) → (InRange front i → ⊥) → 0x200 ≤ i
+      past-front i f = by (decLt i 0x200)
+        where
+          by : Dec (i < 0x200) → 0x200 ≤ i
+          by (yes l) = absurd (f (omega arith, l))
+          by (no l) = omega arith
 
   after-table : part after (inactive (c .header)) ≡ S
   unfolding part
   after-table =
       let p = inactive-table image c g .past in
-      part-same after image (inactive (c .header) .offset) (inactive (c .header) .size) after-size (λ i l m. after-out i (omega arith))
+      part-same after image (inactive (c .header) .offset) (inactive (c .header) .size) (headed .size) (λ i l m. headed .rest i (omega arith))
 
   -- ---- opening
 
@@ -137,14 +121,14 @@ module _ (image : List ℕ) (c : Container) (o : opened image ≡ opening.Valid 
   header-good : judgedHeader (length after) (headerBytes after) ≡ GoodHeader (headerFlipped (c .header))
   unfolding headerCommitted
   header-good =
-      ap (λ (n : ℕ). judgedHeader n (headerBytes after)) after-size ∙ ap (judgedHeader (length image)) after-header
+      ap (λ (n : ℕ). judgedHeader n (headerBytes after)) (headed .size) ∙ ap (judgedHeader (length image)) (headed .header)
       ∙ flipped-header (length image) (headerBytes image) (sha256 S) (c .header) header-size (length-sha256 S)
       (header-checked (length image) (headerBytes image) (c .header) (checked image c o .header))
 
   hash-good : tableMatches (c .header .kind) (headerBytes after) S ≡ true
   unfolding tableMatches headerCommitted
   hash-good =
-      ap (λ (x : List ℕ). sameBytes (part x (hashRange (c .header .kind))) (sha256 S)) after-header
+      ap (λ (x : List ℕ). sameBytes (part x (hashRange (c .header .kind))) (sha256 S)) (headed .header)
       ∙ ap (λ (x : List ℕ). sameBytes x (sha256 S))
       (reheaded-hash (c .header .kind) (1 - c .header .flag) (sha256 S) (headerBytes image) header-size (length-sha256 S))
       ∙ same-refl (sha256 S)
@@ -240,7 +224,7 @@ module _ (image : List ℕ) (c : Container) (o : opened image ≡ opening.Valid 
   after-opens =
       let t : part after (active (headerFlipped (c .header))) ≡ S = ap (part after) table-flipped ∙ after-table in
       opens after (switched c) (record {
-        size = ap lengthAllowed after-size ∙ checked image c o .size;
+        size = ap lengthAllowed (headed .size) ∙ checked image c o .size;
         header = header-good;
         table = record {
           same = refl;
@@ -256,7 +240,7 @@ module _ (image : List ℕ) (c : Container) (o : opened image ≡ opening.Valid 
     past : 0x200 ≤ slotOf c q .partition .offset
     past = place-of image c g q h .slot .partitionFront
 
-    avoids : Avoids (InRange headerRange) (treeOf c q)
+    avoids : Avoids (InRange front) (treeOf c q)
     unfolding place
     avoids =
         let t = tree-inside image c g q h in
@@ -269,7 +253,7 @@ module _ (image : List ℕ) (c : Container) (o : opened image ≡ opening.Valid 
           level3 = λ second y l f. over (treeOf c q .level3) second y f three;
         }
       where
-        over : (l : Level) (second : Bool) (y : ℕ) → InRange headerRange (place l second y) → slotOf c q .partition .offset ≤ l .offset → ⊥
+        over : (l : Level) (second : Bool) (y : ℕ) → InRange front (place l second y) → slotOf c q .partition .offset ≤ l .offset → ⊥
         over l second y (a, b) k = let p = past in omega arith
 
     -- a tree's content does not depend on which half is live
@@ -300,10 +284,10 @@ module _ (image : List ℕ) (c : Container) (o : opened image ≡ opening.Valid 
       level3 = refl;
       level4 = refl;
       external = refl;
-      master = λ y l. let m = staged-master image c g q h .0 in let t = inactive-table image c g .past in sym (after-out _ (omega arith));
+      master = λ y l. let m = staged-master image c g q h .0 in let t = inactive-table image c g .past in sym (headed .rest _ (omega arith));
       inner = λ z l. sym (tree-flipped after (not (treeOf c q .live)) z
-          ∙ avoided-content (treeOf c q) (length image) (tree-rules image c g q h) (InRange headerRange) image after avoids after-keeps (not (treeOf c q .live)) z l);
-      outer = λ e y l. let p = past in sym (after-out _ (omega arith));
+          ∙ avoided-content (treeOf c q) (length image) (tree-rules image c g q h) (InRange front) image after avoids after-keeps (not (treeOf c q .live)) z l);
+      outer = λ e y l. let p = past in sym (headed .rest _ (omega arith));
     }
 
     version-switched : versionOf (committedView (switched c) q) after ≡ versionOf (stagedView c q) image
@@ -311,11 +295,13 @@ module _ (image : List ℕ) (c : Container) (o : opened image ≡ opening.Valid 
         ap (λ (v : View). versionOf v after) view-flipped
         ∙ sym (same-version (stagedView c q) newView image after (length image) (staged-rules image c g q h) seen)
 
-pub commits : (image : List ℕ) (c : Container) → opened image ≡ opening.Valid c → tableStaged c image ≡ true → CommitLaws c image
-commits image c o t = record {
+pub commits : (image : List ℕ) (c : Container) → opened image ≡ opening.Valid c → tableStaged c image ≡ true
+    → (after : List ℕ) → Headed c image after → CommitLaws c image after
+commits image c o t after w = record {
   container = switched c;
-  opens = after-opens image c o t;
+  opens = after-opens image c o t after w;
+  kind = refl;
   count = refl;
   internal = λ q h. ap (λ (p : Partition). p .difi .external) (switched-partition c q);
-  version = version-switched image c o t;
+  version = version-switched image c o t after w;
 }

@@ -19,9 +19,12 @@ use Rattle.steps.specs.declared.Count.the-variants as count
 use Rattle.steps.specs.Reading.{readFrom, verdictOn, countIn}
 use Rattle.steps.specs.Calls.{After, unread, readIn, readCommitted, verifiedIn, isVerified, countVerifiedIn, countVerified}
 use Rattle.signing.specs.declared.Signer.{Signer}
-use Rattle.signing.specs.Calls.{signed}
-use Rattle.history.specs.Model.{Version, versionOf, readOf, judgedOf, countTrue, Call, Open, ReadCommitted, ReadStaged, IsVerified, CountVerified, SigningBlock, SigningDigest, Begin, Write, Commit, Abandon, Ruling, Accepted, Refused, Did}
-use Rattle.history.specs.Run.{State, perform, ruled, next, after, events, commits, commitOf}
+use Rattle.signing.specs.Calls.{Answer, Signs, signed}
+use Rattle.signing.specs.Calls as signing
+use Rattle.number.specs.Ranges.{part}
+use Rattle.signatures.specs.Signatures.{signatureRange, afterSigner, comesFirst, openedSigned}
+use Rattle.history.specs.Model.{Version, versionOf, readOf, judgedOf, countTrue, Form, Plain, Signed, Call, Ask, Begin, Write, Commit, Abandon, Ruling, Accepted, Refused, Did}
+use Rattle.history.specs.Run.{State, openedAs, perform, ruled, next, after, events, commits, commitOf}
 use Rattle.history.specs.Theorem.{SameAnswers, Left}
 use Rattle.history.proofs.VersionLaws.{read-version, judged-version, count-version}
 use Rattle.history.proofs.CallCases.{refused, begun-by, written-by}
@@ -33,17 +36,24 @@ same-signed : (image left : List ℕ) → length left ≡ length image → heade
 unfolding signed
 same-signed image left n h signer = rw (n, h)
 
+-- a signed opening is of what opening answers, the header, the signature and what is signed
+same-signature : (image left key : List ℕ) (signer : Signer) → opened left ≡ opened image → headerBytes left ≡ headerBytes image
+    → part left signatureRange ≡ part image signatureRange → signed left signer ≡ signed image signer
+    → openedSigned left key signer ≡ openedSigned image key signer
+unfolding openedSigned
+same-signature image left key signer o h f s = by (signed image signer) s
+  where
+    by : (a : Answer) → signed left signer ≡ a
+        → cond (comesFirst (opened left)) (opened left) (afterSigner left key signer (signed left signer))
+        ≡ cond (comesFirst (opened image)) (opened image) (afterSigner image key signer a)
+    by (Signs block) e = rw (e, o, h, f)
+    by (signing.Refused r) e = rw (e, o)
+
 module _ (W : CallLaws) where
   -- no call but commit stores to a byte that is not free
-  pub spares : (call : Call) (st : State) (c : Container) → (call ≡ Commit → ⊥) → opened (st .image) ≡ opening.Valid c → Left c (st .image) (next call st .image)
+  pub spares : (call : Call) (st : State) (c : Container) → ((form : Form) → call ≡ Commit form → ⊥) → opened (st .image) ≡ opening.Valid c → Left c (st .image) (next call st .image)
   unfolding perform
-  spares Open st c h o = keeps-refl _ _
-  spares (ReadCommitted q place buffer) st c h o = keeps-refl _ _
-  spares (ReadStaged q place buffer) st c h o = keeps-refl _ _
-  spares (IsVerified q b) st c h o = keeps-refl _ _
-  spares (CountVerified q) st c h o = keeps-refl _ _
-  spares (SigningBlock signer buffer) st c h o = keeps-refl _ _
-  spares (SigningDigest signer buffer) st c h o = keeps-refl _ _
+  spares (Ask query) st c h o = keeps-refl _ _
   spares Begin st c h o = by (ruled Begin st) refl
     where
       by : (r : Ruling) → ruled Begin st ≡ r → Left c (st .image) (next Begin st .image)
@@ -58,14 +68,14 @@ module _ (W : CallLaws) where
           subst (λ (a : After). Left c (st .image) (a .image)) (sym (b .after))
           (W .write (st .image) c o q place bytes (b .there) (b .internal) (b .allowed) .stores)
       by Refused e = subst (λ (s : State). Left c (st .image) (s .image)) (sym (refused (Write q place bytes) st e)) (keeps-refl _ _)
-  spares Commit st c h o = absurd (h refl)
+  spares (Commit form) st c h o = absurd (h form refl)
   spares Abandon st c h o = keeps-refl _ _
 
   -- nor does a call that is no accepted commit
   spares-event : (call : Call) (r : Ruling) (st : State) (c : Container) → ruled call st ≡ r → commitOf (Did call r) ≡ 0 → opened (st .image) ≡ opening.Valid c
       → Left c (st .image) (next call st .image)
   spares-event call Refused st c e z o = subst (λ (s : State). Left c (st .image) (s .image)) (sym (refused call st e)) (keeps-refl _ _)
-  spares-event call Accepted st c e z o = spares call st c (λ q. let y : commitOf (Did Commit Accepted) ≡ 0 = subst (λ (x : Call). commitOf (Did x Accepted) ≡ 0) q z in omega arith) o
+  spares-event call Accepted st c e z o = spares call st c (λ form q. let y : commitOf (Did (Commit form) Accepted) ≡ 0 = subst (λ (x : Call). commitOf (Did x Accepted) ≡ 0) q z in omega arith) o
 
   -- so no list does before an accepted commit, from whatever session
   pub stores : (st : State) (calls : List Call) (c : Container) → opened (st .image) ≡ opening.Valid c → commits (events calls st) ≡ 0
@@ -81,7 +91,7 @@ module _ (W : CallLaws) where
   pub crash : (image left : List ℕ) (c : Container) → opened image ≡ opening.Valid c → Left c image left → SameAnswers image left
   unfolding readCommitted isVerified countVerified
   crash image left c o k = record {
-    opening = o' ∙ sym o;
+    opening = same-opened;
     reads = λ q place buffer. ap (readIn left q place buffer) o' ∙ reads q place buffer (ltb q (partitions c)) refl ∙ sym (ap (readIn image q place buffer) o);
     questions = λ q b. ap (verifiedIn left q b) o' ∙ questions q b (ltb q (partitions c)) refl ∙ sym (ap (verifiedIn image q b) o);
     counts = λ q. ap (countVerifiedIn left q) o' ∙ counts q (ltb q (partitions c)) refl ∙ sym (ap (countVerifiedIn image q) o);
@@ -90,6 +100,12 @@ module _ (W : CallLaws) where
     where
       o' : opened left ≡ opening.Valid c
       o' = W .frame image left c o k .opens
+
+      same-opened : (form : Form) → openedAs form left ≡ openedAs form image
+      same-opened Plain = o' ∙ sym o
+      same-opened (Signed key signer) =
+          same-signature image left key signer (o' ∙ sym o) (W .frame image left c o k .header) (W .frame image left c o k .front)
+          (same-signed image left (k .size) (W .frame image left c o k .header) signer)
 
       same : (q : ℕ) → ltb q (partitions c) ≡ true → versionOf (committedView c q) left ≡ versionOf (committedView c q) image
       same q e = W .frame image left c o k .version q (ltb-true q (partitions c) e)

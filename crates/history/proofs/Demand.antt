@@ -6,15 +6,17 @@ use Rattle.history.proofs.Following.{history}
 use Rattle.history.proofs.Crashing.{spares, stores, crash}
 use Rattle.history.proofs.Landing.{landed, settled}
 use Rattle.history.proofs.Progress.{progress}
+use Rattle.history.proofs.Signing.{unit, signing}
 use Rattle.history.proofs.Calls.{call-laws}
 
 from-laws : CallLaws → Demand3
 from-laws W = record {
   history = history W;
   crash = record { answers = crash W; stores = stores W };
-  sparing = record { opens = spares W; refused = unopened };
+  sparing = record { opens = spares W; unit = unit; refused = unopened };
   landing = record { landed = landed W; settled = settled };
   progress = progress W;
+  signing = signing W;
 }
 
 pub demand3 : Demand3

@@ -15,14 +15,14 @@ use Rattle.update.specs.Staged.{writtenTo}
 use Rattle.views.specs.Places.{stagedView}
 use Rattle.steps.specs.declared.Count.the-variants as count
 use Rattle.steps.specs.declared.Session.{Session}
-use Rattle.steps.specs.Sessions.{idle, begunImage, current, tableStaged, committedImage}
+use Rattle.steps.specs.Sessions.{idle, begunImage, current, tableStaged}
 use Rattle.steps.specs.Calls.{After, readCommitted, readStaged, isVerified, countVerified}
-use Rattle.history.specs.Model.{Version, versionOf, laidOver, Call, Open, ReadCommitted, ReadStaged, IsVerified, CountVerified, SigningBlock, SigningDigest, Begin, Write, Commit, Abandon, Answer, Reading, Judging, Counting, Ruling, Accepted, Refused, Model, advance, followed, readOf, readStagedOf, judgedOf, countTrue, says}
-use Rattle.history.specs.Run.{State, perform, ruled, next, after, events}
+use Rattle.history.specs.Model.{Version, versionOf, laidOver, Form, Query, Open, ReadCommitted, ReadStaged, IsVerified, CountVerified, SigningBlock, SigningDigest, Call, Ask, Begin, Write, Commit, Abandon, Answer, Reading, Judging, Counting, Ruling, Accepted, Refused, Model, advance, followed, readOf, readStagedOf, judgedOf, countTrue, says}
+use Rattle.history.specs.Run.{State, reply, perform, ruled, next, after, events}
 use Rattle.history.specs.Theorem.{Has, Start, committedIn, stagedIn, Follows, History, Left}
 use Rattle.history.proofs.VersionLaws.{never}
 use Rattle.history.proofs.ReadLaws.{read-committed, read-staged, read-idle, judged, counted}
-use Rattle.history.proofs.CallCases.{not-both, refused, idles, begun-by, written-by, committed-by, abandoned-by, idle-rests}
+use Rattle.history.proofs.CallCases.{landedImage, not-both, refused, idles, begun-by, written-by, committed-by, abandoned-by, idle-rests}
 use Rattle.history.proofs.CallLaws.{FrameLaws, WriteLaws, CommitLaws, CallLaws}
 
 -- what is kept from call to call: also whether the session is begun, and that it may go on
@@ -52,7 +52,7 @@ goes-on c image image' session h t k =
     (ap (λ (x : List ℕ). sameBytes x (session .header)) h ∙ and-left (sameBytes (headerBytes image) (session .header)) (tableStaged c image) k)
     (t (and-right (sameBytes (headerBytes image) (session .header)) (tableStaged c image) k))
 
-staged-table : (c : Container) (image : List ℕ) (session : Session) → current c image session ≡ true → tableStaged c image ≡ true
+pub staged-table : (c : Container) (image : List ℕ) (session : Session) → current c image session ≡ true → tableStaged c image ≡ true
 unfolding current
 staged-table c image session k = and-right (sameBytes (headerBytes image) (session .header)) (tableStaged c image) k
 
@@ -131,18 +131,19 @@ module _ (W : CallLaws) where
           staged = same w f (w .others p (g .has .there) (eqb-false q p u)) (m .staged) (g .staged);
         }
 
-    by-commit : ruled Commit st ≡ Accepted → Agrees p (next Commit st) (advance p Commit Accepted m)
+    by-commit : (form : Form) → ruled (Commit form) st ≡ Accepted → Agrees p (next (Commit form) st) (advance p (Commit form) Accepted m)
     unfolding perform advance
-    by-commit e =
-        let b = committed-by (st .image) (st .session) c (g .has .opens) e in
-        let s = W .commit (st .image) c (g .has .opens) (staged-table c (st .image) (st .session) (b .current)) in
+    by-commit form e =
+        let b = committed-by form st c (g .has .opens) e in
+        let s = W .commit (st .image) c (g .has .opens) (staged-table c (st .image) (st .session) (b .current)) (landedImage form c (st .image))
+        (W .units (st .image) c (g .has .opens) form) in
         subst (λ (a : After). Agrees p (record { image = a .image; session = a .session }) (record { committed = Option·getD (m .staged) (m .committed); staged = none }))
         (sym (b .after))
         (by s (m .staged) (g .staged))
       where
-        by : CommitLaws c (st .image) → (o : Option Version) → Tracks (g .has) (st .session) o
-            → Agrees p (record { image = committedImage c (st .image); session = idle }) (record { committed = Option·getD o (m .committed); staged = none })
-        by s none t = not-both e (idles Commit st refl t)
+        by : CommitLaws c (st .image) (landedImage form c (st .image)) → (o : Option Version) → Tracks (g .has) (st .session) o
+            → Agrees p (record { image = landedImage form c (st .image); session = idle }) (record { committed = Option·getD o (m .committed); staged = none })
+        by s none t = not-both e (idles (Commit form) st refl t)
         by s (some v) t = record {
           has = record {
             container = s .container;
@@ -164,16 +165,10 @@ module _ (W : CallLaws) where
 
     by-accepted : (call : Call) → ruled call st ≡ Accepted → Agrees p (next call st) (advance p call Accepted m)
     unfolding perform advance
-    by-accepted Open e = g
-    by-accepted (ReadCommitted q place buffer) e = g
-    by-accepted (ReadStaged q place buffer) e = g
-    by-accepted (IsVerified q b) e = g
-    by-accepted (CountVerified q) e = g
-    by-accepted (SigningBlock signer buffer) e = g
-    by-accepted (SigningDigest signer buffer) e = g
+    by-accepted (Ask query) e = g
     by-accepted Begin e = by-begin e
     by-accepted (Write q place bytes) e = by-write q place bytes e
-    by-accepted Commit e = by-commit e
+    by-accepted (Commit form) e = by-commit form e
     by-accepted Abandon e = by-abandon e
 
     pub step : (call : Call) → Agrees p (next call st) (advance p call (ruled call st) m)
@@ -192,9 +187,9 @@ module _ (W : CallLaws) where
         read-staged (st .image) c (g .has .opens) p (g .has .there) (st .session) (t .0) (t .1) place buffer
         ∙ ap (λ (x : Version). readOf x place buffer) (t .2)
 
-    pub answers : (call : Call) (a : Answer) → says p m call ≡ some a → perform call st .answer ≡ a
-    unfolding perform says
-    answers Open a e = never e
+    pub answers : (query : Query) (a : Answer) → says p m query ≡ some a → perform (Ask query) st .answer ≡ a
+    unfolding perform reply says
+    answers (Open form) a e = never e
     answers (ReadCommitted q place buffer) a e =
         let o = own q p (Reading (readOf (m .committed) place buffer)) a e in
         ap Reading (ap (λ (z : ℕ). readCommitted (st .image) z place buffer) (o .0)
@@ -212,10 +207,6 @@ module _ (W : CallLaws) where
         ∙ counted (st .image) c (g .has .opens) p (g .has .there) ∙ ap (λ (v : Version). count.Blocks (countTrue (v .verified))) (g .committed)) ∙ o .1
     answers (SigningBlock signer buffer) a e = never e
     answers (SigningDigest signer buffer) a e = never e
-    answers Begin a e = never e
-    answers (Write q place bytes) a e = never e
-    answers Commit a e = never e
-    answers Abandon a e = never e
 
     pub follows-of : Follows p st m
     follows-of = record {

@@ -14,6 +14,7 @@ use Rattle.layout.specs.Opening.{opened}
 use Rattle.layout.specs.Guarantees.{Guarantees}
 use Rattle.layout.proofs.GuaranteeLaws.{guarantees}
 use Rattle.layout.proofs.FrameLaws.{agree-part, frame-opened}
+use Rattle.signatures.specs.Signatures.{signatureRange}
 use Rattle.dpfs.specs.Free.{InRange}
 use Rattle.dpfs.proofs.SpaceLaws.{kept-content, kept-free}
 use Rattle.views.specs.Places.{partitions, slotOf, partitionOf, treeOf, viewIn, committedView, spaceOf}
@@ -70,6 +71,7 @@ framed image left c o k =
     record {
       opens = frame-opened image left c o (sym (k .size)) (λ i a b. sym (front-stays image left c g k i b)) (λ i a b. sym (active-stays image left c g k i (a, b)));
       header = header-stays image left c g k;
+      front = agree-part left image signatureRange (k .size) (λ i a b. front-stays image left c g k i (omega arith));
       free = λ i f. kept-free (spaceOf c) (length image) (space-rules image c g) image left k i .0 f;
       version = λ q h. same-version (committedView c q) (committedView c q) left image (length image) (committed-rules image c g q h) (seen image left c g k q h);
     }

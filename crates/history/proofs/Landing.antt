@@ -22,7 +22,7 @@ use Rattle.ivfc.specs.Views.{contentOf, verified}
 use Rattle.views.specs.Places.{viewIn, committedView, stagedView}
 use Rattle.layout.specs.declared.Outcome.the-variants as outcome
 use Rattle.steps.specs.Calls.{readCommitted}
-use Rattle.history.specs.Model.{Version, versionOf, laidOver, lowest, readOf, Call, Open, ReadCommitted, ReadStaged, IsVerified, CountVerified, SigningBlock, SigningDigest, Begin, Write, Commit, Abandon, Ruling, Accepted, Refused, Event, Did, Model, advance, followed}
+use Rattle.history.specs.Model.{Version, versionOf, laidOver, lowest, readOf, Form, Call, Ask, Begin, Write, Commit, Abandon, Ruling, Accepted, Refused, Event, Did, Model, advance, followed}
 use Rattle.history.specs.Run.{State, perform, ruled, next, after, events, beginOf, begins, commitOf, commits, Put, putBy, valueAt, later, lastValue}
 use Rattle.history.specs.Theorem.{Has, Start, committedIn, levelIn, byteIn, verifiedIn, Landed}
 use Rattle.history.proofs.VersionLaws.{never, length-flags, getD-flags}
@@ -35,16 +35,10 @@ use Rattle.history.proofs.LaidLaws.{putOver, laid, later-some, value-in
 -- ---- the calls that are accepted: a write and a commit while there is a staged version, a write within level 4
 
 abbrev Allowed : (p : ℕ) → Model → Call → Type 0
-Allowed p m Open = Unit {0}
-Allowed p m (ReadCommitted q place buffer) = Unit {0}
-Allowed p m (ReadStaged q place buffer) = Unit {0}
-Allowed p m (IsVerified q b) = Unit {0}
-Allowed p m (CountVerified q) = Unit {0}
-Allowed p m (SigningBlock signer buffer) = Unit {0}
-Allowed p m (SigningDigest signer buffer) = Unit {0}
+Allowed p m (Ask query) = Unit {0}
 Allowed p m Begin = Unit {0}
 Allowed p m (Write q place bytes) = (m .staged ≡ none → ⊥) × (q ≡ p → place + length bytes ≤ m .committed .level .size)
-Allowed p m Commit = m .staged ≡ none → ⊥
+Allowed p m (Commit form) = m .staged ≡ none → ⊥
 Allowed p m Abandon = Unit {0}
 
 abbrev Lawful : (p : ℕ) → List Event → Model → Type 0
@@ -63,13 +57,7 @@ version-level view image = refl
 module _ (W : CallLaws) where
   allowed : (p : ℕ) (st : State) (m : Model) → Agrees p st m → (c : Call) → ruled c st ≡ Accepted → Allowed p m c
   unfolding perform
-  allowed p st m g Open e = tt
-  allowed p st m g (ReadCommitted q place buffer) e = tt
-  allowed p st m g (ReadStaged q place buffer) e = tt
-  allowed p st m g (IsVerified q b) e = tt
-  allowed p st m g (CountVerified q) e = tt
-  allowed p st m g (SigningBlock signer buffer) e = tt
-  allowed p st m g (SigningDigest signer buffer) e = tt
+  allowed p st m g (Ask query) e = tt
   allowed p st m g Begin e = tt
   allowed p st m g (Write q place bytes) e =
       let c = g .has .container in
@@ -80,7 +68,7 @@ module _ (W : CallLaws) where
         λ k. subst (λ (x : Level). place + length bytes ≤ x .size) (sym l)
             (subst (λ (z : ℕ). place + length bytes ≤ stagedView c z .level4 .size) k (write-fits (stagedView c q) (st .image) place (length bytes) (b .allowed))),
       )
-  allowed p st m g Commit e = λ n. not-both e (idles Commit st refl (subst (Tracks (g .has) (st .session)) n (g .staged)))
+  allowed p st m g (Commit form) e = λ n. not-both e (idles (Commit form) st refl (subst (Tracks (g .has) (st .session)) n (g .staged)))
   allowed p st m g Abandon e = tt
 
   lawful-on : (p : ℕ) (calls : List Call) (st : State) (m : Model) → Agrees p st m → Lawful p (events calls st) m
@@ -117,16 +105,10 @@ rests-on p e es v r a b c =
 rest : (p : ℕ) (es : List Event) (v : Version) → Lawful p es (record { committed = v; staged = none }) → begins es ≡ 0 → Rests p es v
 unfolding followed advance begins commits lastValue laid
 rest p [] v l b = record { model = refl; commits = refl; values = λ i. refl; same = λ w. refl }
-rest p (Did Open Accepted ∷ es) v l b = rests-on p _ es v (rest p es v (l .1) (omega arith)) refl refl refl
-rest p (Did (ReadCommitted q place buffer) Accepted ∷ es) v l b = rests-on p _ es v (rest p es v (l .1) (omega arith)) refl refl refl
-rest p (Did (ReadStaged q place buffer) Accepted ∷ es) v l b = rests-on p _ es v (rest p es v (l .1) (omega arith)) refl refl refl
-rest p (Did (IsVerified q c) Accepted ∷ es) v l b = rests-on p _ es v (rest p es v (l .1) (omega arith)) refl refl refl
-rest p (Did (CountVerified q) Accepted ∷ es) v l b = rests-on p _ es v (rest p es v (l .1) (omega arith)) refl refl refl
-rest p (Did (SigningBlock signer buffer) Accepted ∷ es) v l b = rests-on p _ es v (rest p es v (l .1) (omega arith)) refl refl refl
-rest p (Did (SigningDigest signer buffer) Accepted ∷ es) v l b = rests-on p _ es v (rest p es v (l .1) (omega arith)) refl refl refl
+rest p (Did (Ask query) Accepted ∷ es) v l b = rests-on p _ es v (rest p es v (l .1) (omega arith)) refl refl refl
 rest p (Did Begin Accepted ∷ es) v l b = absurd (omega arith)
 rest p (Did (Write q place bytes) Accepted ∷ es) v l b = absurd (l .0 .0 refl)
-rest p (Did Commit Accepted ∷ es) v l b = absurd (l .0 refl)
+rest p (Did (Commit form) Accepted ∷ es) v l b = absurd (l .0 refl)
 rest p (Did Abandon Accepted ∷ es) v l b = rests-on p _ es v (rest p es v (l .1) (omega arith)) refl refl refl
 rest p (Did c Refused ∷ es) v l b = rests-on p _ es v (rest p es v l (omega arith)) refl refl refl
 
@@ -184,32 +166,22 @@ lands-put p q place bytes es old v fits on l = record {
         by (inl a) = on v l .inside i x a
         by (inr a) = never a
 
-after-commit : (p i : ℕ) (es : List Event) → lastValue p i es ≡ none → lastValue p i (Did Commit Accepted ∷ es) ≡ none
+after-commit : (p i : ℕ) (form : Form) (es : List Event) → lastValue p i es ≡ none → lastValue p i (Did (Commit form) Accepted ∷ es) ≡ none
 unfolding lastValue
-after-commit p i es e = rw e
+after-commit p i form es e = rw e
 
 -- while v is staged, with no more begins and a commit to come
 live : (p : ℕ) (es : List Event) (old v : Version) → Lawful p es (record { committed = old; staged = some v }) → begins es ≡ 0 → 0 < commits es
     → Lands p es (record { committed = old; staged = some v }) v
 unfolding followed advance begins commits laid
 live p [] old v l b c = absurd (omega arith)
-live p (Did Open Accepted ∷ es) old v l b c = lands-on p _ es _ _ v (live p es old v (l .1) (omega arith) (omega arith)) refl refl refl
-live p (Did (ReadCommitted q place buffer) Accepted ∷ es) old v l b c =
-    lands-on p _ es _ _ v (live p es old v (l .1) (omega arith) (omega arith)) refl refl refl
-live p (Did (ReadStaged q place buffer) Accepted ∷ es) old v l b c =
-    lands-on p _ es _ _ v (live p es old v (l .1) (omega arith) (omega arith)) refl refl refl
-live p (Did (IsVerified q d) Accepted ∷ es) old v l b c = lands-on p _ es _ _ v (live p es old v (l .1) (omega arith) (omega arith)) refl refl refl
-live p (Did (CountVerified q) Accepted ∷ es) old v l b c = lands-on p _ es _ _ v (live p es old v (l .1) (omega arith) (omega arith)) refl refl refl
-live p (Did (SigningBlock signer buffer) Accepted ∷ es) old v l b c =
-    lands-on p _ es _ _ v (live p es old v (l .1) (omega arith) (omega arith)) refl refl refl
-live p (Did (SigningDigest signer buffer) Accepted ∷ es) old v l b c =
-    lands-on p _ es _ _ v (live p es old v (l .1) (omega arith) (omega arith)) refl refl refl
+live p (Did (Ask query) Accepted ∷ es) old v l b c = lands-on p _ es _ _ v (live p es old v (l .1) (omega arith) (omega arith)) refl refl refl
 live p (Did Begin Accepted ∷ es) old v l b c = absurd (omega arith)
 live p (Did (Write q place bytes) Accepted ∷ es) old v l b c =
     lands-put p q place bytes es old v (l .0 .1) (λ w k. live p es old w k (omega arith) (omega arith)) (l .1)
-live p (Did Commit Accepted ∷ es) old v l b c =
+live p (Did (Commit form) Accepted ∷ es) old v l b c =
     let r = rest p es v (l .1) (omega arith) in
-    record { version = ap (λ (m : Model). m .committed) (r .model) ∙ sym (r .same v); inside = λ i x e. never (sym (after-commit p i es (r .values i)) ∙ e) }
+    record { version = ap (λ (m : Model). m .committed) (r .model) ∙ sym (r .same v); inside = λ i x e. never (sym (after-commit p i form es (r .values i)) ∙ e) }
 live p (Did Abandon Accepted ∷ es) old v l b c = absurd (let r = rest p es old (l .1) (omega arith) in let n = r .commits in omega arith)
 live p (Did d Refused ∷ es) old v l b c = lands-on p _ es _ _ v (live p es old v l (omega arith) (omega arith)) refl refl refl
 
@@ -218,20 +190,10 @@ landing : (p : ℕ) (es : List Event) (v : Version) → Lawful p es (record { co
     → Lands p es (record { committed = v; staged = none }) v
 unfolding followed advance begins commits
 landing p [] v l b c = absurd (omega arith)
-landing p (Did Open Accepted ∷ es) v l b c = lands-on p _ es _ _ v (landing p es v (l .1) (omega arith) (omega arith)) refl refl refl
-landing p (Did (ReadCommitted q place buffer) Accepted ∷ es) v l b c =
-    lands-on p _ es _ _ v (landing p es v (l .1) (omega arith) (omega arith)) refl refl refl
-landing p (Did (ReadStaged q place buffer) Accepted ∷ es) v l b c =
-    lands-on p _ es _ _ v (landing p es v (l .1) (omega arith) (omega arith)) refl refl refl
-landing p (Did (IsVerified q d) Accepted ∷ es) v l b c = lands-on p _ es _ _ v (landing p es v (l .1) (omega arith) (omega arith)) refl refl refl
-landing p (Did (CountVerified q) Accepted ∷ es) v l b c = lands-on p _ es _ _ v (landing p es v (l .1) (omega arith) (omega arith)) refl refl refl
-landing p (Did (SigningBlock signer buffer) Accepted ∷ es) v l b c =
-    lands-on p _ es _ _ v (landing p es v (l .1) (omega arith) (omega arith)) refl refl refl
-landing p (Did (SigningDigest signer buffer) Accepted ∷ es) v l b c =
-    lands-on p _ es _ _ v (landing p es v (l .1) (omega arith) (omega arith)) refl refl refl
+landing p (Did (Ask query) Accepted ∷ es) v l b c = lands-on p _ es _ _ v (landing p es v (l .1) (omega arith) (omega arith)) refl refl refl
 landing p (Did Begin Accepted ∷ es) v l b c = lands-on p _ es _ _ v (live p es v v (l .1) (omega arith) (omega arith)) refl refl refl
 landing p (Did (Write q place bytes) Accepted ∷ es) v l b c = absurd (l .0 .0 refl)
-landing p (Did Commit Accepted ∷ es) v l b c = absurd (l .0 refl)
+landing p (Did (Commit form) Accepted ∷ es) v l b c = absurd (l .0 refl)
 landing p (Did Abandon Accepted ∷ es) v l b c = lands-on p _ es _ _ v (landing p es v (l .1) (omega arith) (omega arith)) refl refl refl
 landing p (Did d Refused ∷ es) v l b c = lands-on p _ es _ _ v (landing p es v l (omega arith) (omega arith)) refl refl refl
 
@@ -342,16 +304,10 @@ module _ (p : ℕ) (es : List Event) (first last : List ℕ) (old : Has first p)
 
 stays : (c : Call) (r : Ruling) (st : State) → ruled c st ≡ r → st .session .begun ≡ false → beginOf (Did c r) ≡ 0 → next c st ≡ st
 unfolding perform
-stays Open Accepted st e i b = refl
-stays (ReadCommitted q place buffer) Accepted st e i b = refl
-stays (ReadStaged q place buffer) Accepted st e i b = refl
-stays (IsVerified q c) Accepted st e i b = refl
-stays (CountVerified q) Accepted st e i b = refl
-stays (SigningBlock signer buffer) Accepted st e i b = refl
-stays (SigningDigest signer buffer) Accepted st e i b = refl
+stays (Ask query) Accepted st e i b = refl
 stays Begin Accepted st e i b = absurd (omega arith)
 stays (Write q place bytes) Accepted st e i b = not-both e (idles (Write q place bytes) st refl i)
-stays Commit Accepted st e i b = not-both e (idles Commit st refl i)
+stays (Commit form) Accepted st e i b = not-both e (idles (Commit form) st refl i)
 stays Abandon Accepted st e i b = not-both e (idles Abandon st refl i)
 stays c Refused st e i b = refused c st e
 
@@ -373,20 +329,21 @@ begins-append [] rest st = omega arith
 begins-append (c ∷ before) rest st = let h = begins-append before rest (next c st) in omega arith
 
 -- a commit that is accepted comes after a begin that was
-begun-before : (before : List Call) (st : State) → st .session .begun ≡ false → ruled Commit (after before st) ≡ Accepted → (n : ℕ) → begins (events before st) ≡ n → 0 < n
-begun-before before st i e zero b =
-    not-both e (idles Commit (after before st) refl (ap (λ (s : State). s .session .begun) (stays-on before st i b) ∙ i))
-begun-before before st i e (suc n) b = omega arith
+begun-before : (before : List Call) (st : State) (form : Form) → st .session .begun ≡ false → ruled (Commit form) (after before st) ≡ Accepted
+    → (n : ℕ) → begins (events before st) ≡ n → 0 < n
+begun-before before st form i e zero b =
+    not-both e (idles (Commit form) (after before st) refl (ap (λ (s : State). s .session .begun) (stays-on before st i b) ∙ i))
+begun-before before st form i e (suc n) b = omega arith
 
-pub settled : (st : State) (before rest : List Call) → st .session .begun ≡ false → begins (events (before ++ Commit ∷ rest) st) ≤ 1
-    → ruled Commit (after before st) ≡ Accepted → after (before ++ Commit ∷ rest) st ≡ next Commit (after before st)
+pub settled : (st : State) (before rest : List Call) (form : Form) → st .session .begun ≡ false → begins (events (before ++ Commit form ∷ rest) st) ≤ 1
+    → ruled (Commit form) (after before st) ≡ Accepted → after (before ++ Commit form ∷ rest) st ≡ next (Commit form) (after before st)
 unfolding after events begins
-settled st before rest i h e =
+settled st before rest form i h e =
     let s = after before st in
-    let first : 0 < begins (events before st) = begun-before before st i e (begins (events before st)) refl in
-    let sum = begins-append before (Commit ∷ rest) st in
-    after-append before (Commit ∷ rest) st
-    ∙ stays-on rest (next Commit s) (idle-after s e) (omega arith)
+    let first : 0 < begins (events before st) = begun-before before st form i e (begins (events before st)) refl in
+    let sum = begins-append before (Commit form ∷ rest) st in
+    after-append before (Commit form ∷ rest) st
+    ∙ stays-on rest (next (Commit form) s) (idle-after form s e) (omega arith)
 
 module _ (W : CallLaws) where
   pub landed : (p : ℕ) (st : State) (start : Start p st) (calls : List Call) → begins (events calls st) ≤ 1 → 0 < commits (events calls st)

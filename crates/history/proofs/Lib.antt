@@ -7,12 +7,14 @@ pub mod Crashing
 pub mod LaidLaws
 pub mod Landing
 pub mod Progress
+pub mod Signing
 pub mod Seen
 pub mod Frames
 pub mod Tables
 pub mod Flips
 pub mod Begins
 pub mod Writes
+pub mod Units
 pub mod Commits
 pub mod Calls
 pub mod Demand

@@ -31,9 +31,9 @@ use Rattle.layout.specs.declared.Outcome.the-variants as outcome
 use Rattle.steps.specs.declared.Session.{Session}
 use Rattle.steps.specs.Reading.{touched, refuseLowest, refuseOutside}
 use Rattle.steps.specs.Sessions.{idle, begunImage, current, aboveVerified, endsOutcome, writeOutcome}
-use Rattle.steps.specs.Calls.{After, write, writeIn}
+use Rattle.steps.specs.Calls.{After, inSession, writeOn, write}
 use Rattle.steps.proofs.BeginLaws.{begun-current}
-use Rattle.history.specs.Model.{Version, versionOf, flags, Call, Begin, Write, Commit, Accepted, rulingOf, Did}
+use Rattle.history.specs.Model.{Plain, Version, versionOf, flags, Call, Begin, Write, Commit, Accepted, rulingOf, Did}
 use Rattle.history.specs.Run.{State, perform, ruled, next, after, events, begins, commits}
 use Rattle.history.specs.Theorem.{Start}
 use Rattle.history.proofs.CallCases.{begun-by, written-by}
@@ -78,7 +78,7 @@ begun-is = ap (λ (a : After). record { image = a .image; session = a .session }
 
 begun-opens : opened begunSmall ≡ opening.Valid smallContainer
 begun-opens =
-    demand3 .crash .answers smallImage begunSmall smallContainer small-opens (laws.begins smallImage smallContainer small-opens .stores) .opening ∙ small-opens
+    demand3 .crash .answers smallImage begunSmall smallContainer small-opens (laws.begins smallImage smallContainer small-opens .stores) .opening Plain ∙ small-opens
 
 -- ---- then a write of the whole of level 4
 
@@ -158,7 +158,7 @@ write-accepted : (st : State) (c : Container) (q place : ℕ) (bytes : List ℕ)
     → writeOutcome (stagedView c q) (st .image) place (length bytes) ≡ outcome.Accepted → ruled (Write q place bytes) st ≡ Accepted
 unfolding perform write
 write-accepted st c q place bytes o b k t e w =
-    ap (λ (x : Opened). rulingOf (writeIn (st .image) (st .session) q place bytes x .outcome)) o ∙ rw (w, k, b, t, e)
+    ap (λ (x : Opened). rulingOf (inSession (st .image) (st .session) (writeOn (st .image) (st .session) q place bytes) x .outcome)) o ∙ rw (w, k, b, t, e)
 
 below : ltb 0 (partitions smallContainer) ≡ true
 unfolding smallContainer diffHeader
@@ -183,15 +183,15 @@ begun-there =
     ∙ ap (λ (a : After). a .session .begun)
     (written-by begunSmall begunSession smallContainer begun-opens 0 0 (replicate 32 7) (ap (ruled written) (sym begun-is) ∙ write-there) .after)
 
-commit-there : ruled Commit (next written (next Begin smallState)) ≡ Accepted
+commit-there : ruled (Commit Plain) (next written (next Begin smallState)) ≡ Accepted
 unfolding after
 commit-there = demand3 .progress .begun 0 smallState small-start (Begin ∷ written ∷ []) begun-there .0
 
 -- the list, and what came of it
 abbrev pub smallCalls : List Call
-smallCalls = Begin ∷ written ∷ Commit ∷ []
+smallCalls = Begin ∷ written ∷ Commit Plain ∷ []
 
-pub small-events : events smallCalls smallState ≡ Did Begin Accepted ∷ Did written Accepted ∷ Did Commit Accepted ∷ []
+pub small-events : events smallCalls smallState ≡ Did Begin Accepted ∷ Did written Accepted ∷ Did (Commit Plain) Accepted ∷ []
 unfolding events
 small-events = rw (begin-there, write-there, commit-there)
 

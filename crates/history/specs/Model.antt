@@ -64,16 +64,24 @@ laidOver place bytes v = record {
 
 -- ---- calls
 
--- a call with its arguments, but no image and no session; a read's length is its buffer's
+-- opening and commit are plain, or signed under a key by a signer (02, W5)
+pub data Form : Type 0 where
+  Plain : Form
+  Signed : (key : List ℕ) → (signer : Signer) → Form
+
+-- a call with its arguments, but no image and no session. A query only reads; a read's length is its buffer's
+pub data Query : Type 0 where
+  Open : Form → Query
+  ReadCommitted ReadStaged : (partition place : ℕ) → (buffer : List ℕ) → Query
+  IsVerified : (partition block : ℕ) → Query
+  CountVerified : (partition : ℕ) → Query
+  SigningBlock SigningDigest : (signer : Signer) → (buffer : List ℕ) → Query
+
 pub data Call : Type 0 where
-  Open : Call
-  ReadCommitted ReadStaged : (partition place : ℕ) → (buffer : List ℕ) → Call
-  IsVerified : (partition block : ℕ) → Call
-  CountVerified : (partition : ℕ) → Call
-  SigningBlock SigningDigest : (signer : Signer) → (buffer : List ℕ) → Call
+  Ask : Query → Call
   Begin : Call
   Write : (partition place : ℕ) → (bytes : List ℕ) → Call
-  Commit : Call
+  Commit : Form → Call
   Abandon : Call
 
 -- what a call answers, in the types of crate container, and what its buffer holds then
@@ -126,15 +134,9 @@ unfoldable pub advance : (p : ℕ) → Call → Ruling → Model → Model
 advance p Begin Accepted m = record { committed = m .committed; staged = some (m .committed) }
 advance p (Write q place bytes) Accepted m =
     cond (eqb q p) (record { committed = m .committed; staged = Option·map (laidOver place bytes) (m .staged) }) m
-advance p Commit Accepted m = record { committed = Option·getD (m .staged) (m .committed); staged = none }
+advance p (Commit form) Accepted m = record { committed = Option·getD (m .staged) (m .committed); staged = none }
 advance p Abandon Accepted m = record { committed = m .committed; staged = none }
-advance p Open Accepted m = m
-advance p (ReadCommitted q place buffer) Accepted m = m
-advance p (ReadStaged q place buffer) Accepted m = m
-advance p (IsVerified q b) Accepted m = m
-advance p (CountVerified q) Accepted m = m
-advance p (SigningBlock signer buffer) Accepted m = m
-advance p (SigningDigest signer buffer) Accepted m = m
+advance p (Ask query) Accepted m = m
 advance p c Refused m = m
 
 -- the model after a list
@@ -175,16 +177,12 @@ unfoldable pub countTrue : List Bool → ℕ
 countTrue [] = 0
 countTrue (v ∷ rest) = cond v 1 0 + countTrue rest
 
--- what the model says that a call answers: a read or a question of its partition; of other calls it says nothing
-unfoldable pub says : (p : ℕ) → Model → Call → Option Answer
-says p m Open = none
+-- what the model says that a query answers: a read or a question of its partition; of others it says nothing
+unfoldable pub says : (p : ℕ) → Model → Query → Option Answer
+says p m (Open form) = none
 says p m (ReadCommitted q place buffer) = cond (eqb q p) (some (Reading (readOf (m .committed) place buffer))) none
 says p m (ReadStaged q place buffer) = cond (eqb q p) (some (Reading (readStagedOf (m .staged) place buffer))) none
 says p m (IsVerified q b) = cond (eqb q p) (some (Judging (judgedOf (m .committed) b))) none
 says p m (CountVerified q) = cond (eqb q p) (some (Counting (count.Blocks (countTrue (m .committed .verified))))) none
 says p m (SigningBlock signer buffer) = none
 says p m (SigningDigest signer buffer) = none
-says p m Begin = none
-says p m (Write q place bytes) = none
-says p m Commit = none
-says p m Abandon = none

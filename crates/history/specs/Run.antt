@@ -6,11 +6,13 @@ use mathlib.Core.Option.{Option, none, some}
 use lib.ListN.{length, getD}
 use lib.Dec.{eqb}
 use Rattle.number.specs.Bytes.{within}
+use Rattle.layout.specs.declared.Opened.{Opened}
 use Rattle.layout.specs.Opening.{opened}
+use Rattle.signatures.specs.Signatures.{openedSigned}
 use Rattle.steps.specs.declared.Session.{Session}
-use Rattle.steps.specs.Calls.{After, readCommitted, readStaged, isVerified, countVerified, begin, write, commit, abandon}
+use Rattle.steps.specs.Calls.{After, readCommitted, readStaged, isVerified, countVerified, begin, write, commit, commitSigned, abandon}
 use Rattle.signing.specs.Calls.{signed, builtAs, outcomeOf, blockLeft, digestLeft}
-use Rattle.history.specs.Model.{Call, Open, ReadCommitted, ReadStaged, IsVerified, CountVerified, SigningBlock, SigningDigest, Begin, Write, Commit, Abandon, Answer, Opening, Reading, Judging, Counting, Building, Digesting, Stepping, Ruling, Accepted, Refused, ruling, Event, Did}
+use Rattle.history.specs.Model.{Form, Plain, Signed, Query, Open, ReadCommitted, ReadStaged, IsVerified, CountVerified, SigningBlock, SigningDigest, Call, Ask, Begin, Write, Commit, Abandon, Answer, Opening, Reading, Judging, Counting, Building, Digesting, Stepping, Ruling, Accepted, Refused, ruling, Event, Did}
 
 pub record State : Type 0 where
   pub image : List ℕ
@@ -21,26 +23,34 @@ pub record Performed : Type 0 where
   pub answer : Answer
   pub state : State
 
--- a call that only reads
-abbrev pub answered : State → Answer → Performed
-answered state answer = record { answer = answer; state = state }
+-- opening and commit, plain and signed
+abbrev pub openedAs : Form → List ℕ → Opened
+openedAs Plain image = opened image
+openedAs (Signed key signer) image = openedSigned image key signer
+
+abbrev pub committedAs : Form → State → After
+committedAs Plain st = commit (st .image) (st .session)
+committedAs (Signed key signer) st = commitSigned (st .image) (st .session) key signer
+
+-- what a query answers
+unfoldable pub reply : Query → State → Answer
+reply (Open form) st = Opening (openedAs form (st .image))
+reply (ReadCommitted q place buffer) st = Reading (readCommitted (st .image) q place buffer)
+reply (ReadStaged q place buffer) st = Reading (readStaged (st .image) (st .session) q place buffer)
+reply (IsVerified q b) st = Judging (isVerified (st .image) q b)
+reply (CountVerified q) st = Counting (countVerified (st .image) q)
+reply (SigningBlock signer buffer) st = Building (builtAs (signed (st .image) signer)) (blockLeft (signed (st .image) signer) buffer)
+reply (SigningDigest signer buffer) st = Digesting (outcomeOf (signed (st .image) signer)) (digestLeft (signed (st .image) signer) buffer)
 
 -- a call on a session
 abbrev pub stepped : After → Performed
 stepped after = record { answer = Stepping (after .outcome); state = record { image = after .image; session = after .session } }
 
 unfoldable pub perform : Call → State → Performed
-perform Open st = answered st (Opening (opened (st .image)))
-perform (ReadCommitted q place buffer) st = answered st (Reading (readCommitted (st .image) q place buffer))
-perform (ReadStaged q place buffer) st = answered st (Reading (readStaged (st .image) (st .session) q place buffer))
-perform (IsVerified q b) st = answered st (Judging (isVerified (st .image) q b))
-perform (CountVerified q) st = answered st (Counting (countVerified (st .image) q))
-perform (SigningBlock signer buffer) st = answered st (Building (builtAs (signed (st .image) signer)) (blockLeft (signed (st .image) signer) buffer))
-perform (SigningDigest signer buffer) st =
-    answered st (Digesting (outcomeOf (signed (st .image) signer)) (digestLeft (signed (st .image) signer) buffer))
+perform (Ask query) st = record { answer = reply query st; state = st }
 perform Begin st = stepped (begin (st .image) (st .session))
 perform (Write q place bytes) st = stepped (write (st .image) (st .session) q place bytes)
-perform Commit st = stepped (commit (st .image) (st .session))
+perform (Commit form) st = stepped (committedAs form st)
 perform Abandon st = record {
   answer = Stepping (abandon (st .session) .outcome);
   state = record { image = st .image; session = abandon (st .session) .session };
@@ -65,30 +75,18 @@ events (c ∷ calls) st = Did c (ruled c st) ∷ events calls (next c st)
 
 -- how many begins, and how many commits, were accepted
 abbrev pub beginOf : Event → ℕ
-beginOf (Did Open Accepted) = 0
-beginOf (Did (ReadCommitted q place buffer) Accepted) = 0
-beginOf (Did (ReadStaged q place buffer) Accepted) = 0
-beginOf (Did (IsVerified q b) Accepted) = 0
-beginOf (Did (CountVerified q) Accepted) = 0
-beginOf (Did (SigningBlock signer buffer) Accepted) = 0
-beginOf (Did (SigningDigest signer buffer) Accepted) = 0
+beginOf (Did (Ask query) Accepted) = 0
 beginOf (Did Begin Accepted) = 1
 beginOf (Did (Write q place bytes) Accepted) = 0
-beginOf (Did Commit Accepted) = 0
+beginOf (Did (Commit form) Accepted) = 0
 beginOf (Did Abandon Accepted) = 0
 beginOf (Did c Refused) = 0
 
 abbrev pub commitOf : Event → ℕ
-commitOf (Did Open Accepted) = 0
-commitOf (Did (ReadCommitted q place buffer) Accepted) = 0
-commitOf (Did (ReadStaged q place buffer) Accepted) = 0
-commitOf (Did (IsVerified q b) Accepted) = 0
-commitOf (Did (CountVerified q) Accepted) = 0
-commitOf (Did (SigningBlock signer buffer) Accepted) = 0
-commitOf (Did (SigningDigest signer buffer) Accepted) = 0
+commitOf (Did (Ask query) Accepted) = 0
 commitOf (Did Begin Accepted) = 0
 commitOf (Did (Write q place bytes) Accepted) = 0
-commitOf (Did Commit Accepted) = 1
+commitOf (Did (Commit form) Accepted) = 1
 commitOf (Did Abandon Accepted) = 0
 commitOf (Did c Refused) = 0
 
@@ -107,16 +105,10 @@ pub record Put : Type 0 where
 
 -- what an accepted write puts into partition p; no other call, and none refused, puts anything
 abbrev pub putBy : (p : ℕ) → Event → Option Put
-putBy p (Did Open Accepted) = none
-putBy p (Did (ReadCommitted q place buffer) Accepted) = none
-putBy p (Did (ReadStaged q place buffer) Accepted) = none
-putBy p (Did (IsVerified q b) Accepted) = none
-putBy p (Did (CountVerified q) Accepted) = none
-putBy p (Did (SigningBlock signer buffer) Accepted) = none
-putBy p (Did (SigningDigest signer buffer) Accepted) = none
+putBy p (Did (Ask query) Accepted) = none
 putBy p (Did Begin Accepted) = none
 putBy p (Did (Write q place bytes) Accepted) = cond (eqb q p) (some (record { place = place; bytes = bytes })) none
-putBy p (Did Commit Accepted) = none
+putBy p (Did (Commit form) Accepted) = none
 putBy p (Did Abandon Accepted) = none
 putBy p (Did c Refused) = none
 

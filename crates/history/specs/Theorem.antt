@@ -3,22 +3,25 @@ use mathlib.Core.Path.{_≡_}
 use Prim.Native.Nat.{ℕ, _+_, _≤_, _<_}
 use mathlib.Core.Bool.{Bool, true, false}
 use mathlib.Core.List.{List, [], _∷_, _++_}
+use mathlib.Core.Logic.{_⊎_}
 use mathlib.Core.Option.{none, some}
 use Rattle.number.specs.declared.Level.{Level}
 use Rattle.number.specs.Blocks.{blocks, blockOf}
 use Rattle.number.specs.Frame.{Keeps}
 use Rattle.layout.specs.declared.Container.{Container}
 use Rattle.layout.specs.declared.Opened.the-variants as opening
+use Rattle.layout.specs.Headers.{headerRange}
 use Rattle.layout.specs.Opening.{opened}
-use Rattle.dpfs.specs.Free.{Free}
+use Rattle.signatures.specs.Signatures.{signatureRange}
+use Rattle.dpfs.specs.Free.{InRange, Free}
 use Rattle.ivfc.specs.Views.{contentOf, verified}
 use Rattle.views.specs.Places.{partitions, partitionOf, committedView, stagedView, spaceOf}
 use Rattle.layout.specs.declared.Outcome.the-variants as outcome
 use Rattle.steps.specs.Calls.{readCommitted, isVerified, countVerified}
 use Rattle.signing.specs.declared.Signer.{Signer}
-use Rattle.signing.specs.Calls.{signed}
-use Rattle.history.specs.Model.{Version, versionOf, Call, Begin, Commit, Abandon, Answer, Accepted, Event, Model, followed, says}
-use Rattle.history.specs.Run.{State, perform, ruled, next, after, events, begins, commits, lastValue}
+use Rattle.signing.specs.Calls.{signed, outcomeOf}
+use Rattle.history.specs.Model.{Version, versionOf, Form, Plain, Signed, Query, Call, Ask, Begin, Commit, Abandon, Answer, Stepping, Accepted, Event, Model, followed, says}
+use Rattle.history.specs.Run.{State, openedAs, perform, ruled, next, after, events, begins, commits, lastValue}
 
 -- an image that opens, with a partition p whose level 4 is internal
 pub record Has (image : List ℕ) (p : ℕ) : Type 0 where
@@ -54,9 +57,9 @@ modelAfter p st start calls = followed p (events calls st) (record { committed =
 pub record History (p : ℕ) (st : State) (start : Start p st) (calls : List Call) : Type 0 where
   -- after each call of the list the views are the model's versions
   pub follows : (before rest : List Call) → calls ≡ before ++ rest → Follows p (after before st) (modelAfter p st start before)
-  -- and each call answers what the model says
-  pub answers : (before rest : List Call) (c : Call) (answer : Answer) → calls ≡ before ++ c ∷ rest
-      → says p (modelAfter p st start before) c ≡ some answer → perform c (after before st) .answer ≡ answer
+  -- and each query answers what the model says
+  pub answers : (before rest : List Call) (query : Query) (answer : Answer) → calls ≡ before ++ Ask query ∷ rest
+      → says p (modelAfter p st start before) query ≡ some answer → perform (Ask query) (after before st) .answer ≡ answer
 
 -- for every list, however many begins it has
 abbrev pub HistoryTheorem : Type 0
@@ -64,9 +67,13 @@ HistoryTheorem = (p : ℕ) (st : State) (start : Start p st) (calls : List Call)
 
 -- ---- power failure
 
--- opening, the committed reads and questions of every partition, and signing, answer alike
+-- Power may fail between any two calls or inside one. Until the unit of a commit lands, whole and last, the image that is left is any that
+-- agrees with the list's first one on the bytes that are not free; once it has landed, it is the one that the commit left. The unit of a plain
+-- commit is its header, 0x100 to 0x1FF; that of a signed one the first 0x200 bytes.
+
+-- opening, plain and under every key and signer, the committed reads and questions of every partition, and signing, answer alike
 pub record SameAnswers (image left : List ℕ) : Type 0 where
-  pub opening : opened left ≡ opened image
+  pub opening : (form : Form) → openedAs form left ≡ openedAs form image
   pub reads : (q place : ℕ) (buffer : List ℕ) → readCommitted left q place buffer ≡ readCommitted image q place buffer
   pub questions : (q b : ℕ) → isVerified left q b ≡ isVerified image q b
   pub counts : (q : ℕ) → countVerified left q ≡ countVerified image q
@@ -83,10 +90,18 @@ pub record CrashTheorem : Type 0 where
   pub stores : (st : State) (calls : List Call) (c : Container) → opened (st .image) ≡ opening.Valid c → commits (events calls st) ≡ 0
       → Left c (st .image) (after calls st .image)
 
--- no call but commit stores to a byte that is not free, whatever session value is handed in; none stores to an image that does not open
+-- what a commit stores of its unit: the header, and the signature where it is signed; the bytes from 0x10 to 0xFF are left alone
+abbrev pub InUnit : Form → (i : ℕ) → Type 0
+InUnit Plain i = InRange headerRange i
+InUnit (Signed key signer) i = InRange signatureRange i ⊎ InRange headerRange i
+
+-- no call but commit, plain or signed, stores to a byte that is not free, whatever session value is handed in; none stores to an image that
+-- does not open
 pub record SparingTheorem : Type 0 where
-  pub opens : (call : Call) (st : State) (c : Container) → (call ≡ Commit → ⊥) → opened (st .image) ≡ opening.Valid c
+  pub opens : (call : Call) (st : State) (c : Container) → ((form : Form) → call ≡ Commit form → ⊥) → opened (st .image) ≡ opening.Valid c
       → Left c (st .image) (next call st .image)
+  -- a commit stores to nothing but its unit
+  pub unit : (form : Form) (st : State) → Keeps (InUnit form) (st .image) (next (Commit form) st .image)
   pub refused : (call : Call) (st : State) → ((c : Container) → opened (st .image) ≡ opening.Valid c → ⊥) → next call st .image ≡ st .image
 
 -- ---- landing
@@ -121,16 +136,26 @@ pub record LandingTheorem : Type 0 where
   pub landed : (p : ℕ) (st : State) (start : Start p st) (calls : List Call) → begins (events calls st) ≤ 1 → 0 < commits (events calls st)
       → Landed p (events calls st) (st .image) (after calls st .image) (start .has)
   -- the state stays as that commit left it
-  pub settled : (st : State) (before rest : List Call) → st .session .begun ≡ false → begins (events (before ++ Commit ∷ rest) st) ≤ 1
-      → ruled Commit (after before st) ≡ Accepted → after (before ++ Commit ∷ rest) st ≡ next Commit (after before st)
+  pub settled : (st : State) (before rest : List Call) (form : Form) → st .session .begun ≡ false
+      → begins (events (before ++ Commit form ∷ rest) st) ≤ 1 → ruled (Commit form) (after before st) ≡ Accepted
+      → after (before ++ Commit form ∷ rest) st ≡ next (Commit form) (after before st)
 
 -- ---- progress: such lists get on, so that the statements above are not empty
 
--- after any list, 13 alone stops a begin, a commit and an abandon: 14 never comes up
+-- after any list, 13 alone stops a begin, a plain commit and an abandon: 14 never comes up; a signed commit is stopped by 15 besides
 pub record ProgressTheorem : Type 0 where
   pub idle : (p : ℕ) (st : State) → Start p st → (calls : List Call) → after calls st .session .begun ≡ false → ruled Begin (after calls st) ≡ Accepted
   pub begun : (p : ℕ) (st : State) → Start p st → (calls : List Call) → after calls st .session .begun ≡ true
-      → (ruled Commit (after calls st) ≡ Accepted) × (ruled Abandon (after calls st) ≡ Accepted)
+      → (ruled (Commit Plain) (after calls st) ≡ Accepted) × (ruled Abandon (after calls st) ≡ Accepted)
+  pub signs : (p : ℕ) (st : State) → Start p st → (calls : List Call) (key : List ℕ) (signer : Signer) → after calls st .session .begun ≡ true
+      → perform (Commit (Signed key signer)) (after calls st) .answer ≡ Stepping (outcomeOf (signed (after calls st .image) signer))
+
+-- ---- signing
+
+-- after an accepted signed commit, opening under the same key and signer is accepted
+pub record SigningTheorem : Type 0 where
+  pub opens : (st : State) (key : List ℕ) (signer : Signer) → ruled (Commit (Signed key signer)) st ≡ Accepted
+      → (c : Container) × (openedAs (Signed key signer) (next (Commit (Signed key signer)) st .image) ≡ opening.Valid c)
 
 -- ---- demand 3
 
@@ -140,3 +165,4 @@ pub record Demand3 : Type 0 where
   pub sparing : SparingTheorem
   pub landing : LandingTheorem
   pub progress : ProgressTheorem
+  pub signing : SigningTheorem

@@ -12,17 +12,32 @@ use Rattle.number.specs.declared.Range.{Range}
 use Rattle.number.specs.Ranges.{placed, part}
 use Rattle.number.specs.Bytes.{sameBytes}
 use Rattle.number.proofs.Tests.{and-left, and-right}
-use Rattle.number.proofs.ListLaws.{same-is}
+use lib.ListN.{length, take, drop}
+use lib.Seq.{sets}
+use Rattle.number.proofs.ListLaws.{same-is, length-part, sets-whole}
 use Rattle.number.proofs.RangeLaws.{placed-rest, placed-fits, fits-ends, Laid, laid, past-first}
 use Rattle.layout.specs.Limits.{tableLimit}
 use Rattle.layout.specs.Magic.{opensWith, disaMagic, diffMagic}
-use Rattle.layout.specs.Headers.{front, partitionRanges, descriptorRanges, headerMagic, headerFields, disaHeader, diffHeader, selectionAllowed, geometryAllowed, judgedFields, judgedHeader}
+use Rattle.layout.specs.Headers.{front, headerBytes, partitionRanges, descriptorRanges, headerMagic, headerFields, disaHeader, diffHeader, selectionAllowed, geometryAllowed, judgedFields, judgedHeader}
 use Rattle.layout.specs.Guarantees.{SlotGuarantees, HeaderGuarantees}
 use Rattle.layout.specs.declared.Kind.{Kind}
 use Rattle.layout.specs.declared.Kind.the-variants.{Disa, Diff}
 use Rattle.layout.specs.declared.Header.{Header}
 use Rattle.layout.specs.declared.Refusal.the-variants.{Format, Selection, Geometry}
 use Rattle.layout.specs.declared.JudgedHeader.the-variants.{GoodHeader, BadHeader}
+
+-- ---- the header's bytes
+
+pub header-length : (image : List ℕ) → 0x200 ≤ length image → length (headerBytes image) ≡ 256
+unfolding part
+header-length image h = length-part image 0x100 0x100 (omega arith)
+
+pub header-copied : (image zeros after : List ℕ) → length zeros ≡ 256 → 0x200 ≤ length image → after ≡ sets zeros 0 (take 0x100 (drop 0x100 image))
+    → after ≡ headerBytes image
+unfolding part
+header-copied image zeros after z h e = e ∙ sets-whole zeros (take 0x100 (drop 0x100 image)) (header-length image h ∙ sym z)
+
+-- ---- the rules
 
 -- the three rules that geometryAllowed joins
 module _ (length : ℕ) (h : Header) (e : geometryAllowed length h ≡ true) where

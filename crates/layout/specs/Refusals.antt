@@ -1,7 +1,7 @@
 -- The paper's number of each refusal, and the value that it carries.
 use Prim.Native.Nat.{ℕ}
 use Rattle.layout.specs.declared.Refusal.{Refusal}
-use Rattle.layout.specs.declared.Refusal.the-variants.{Length, Format, Selection, Geometry, TableHash, Descriptor, Placement, NoPartition, OutOfRange, Unverified, UnverifiedAbove, ExternalLevel, SessionState, Stale, SignerKind, DigestTooLong}
+use Rattle.layout.specs.declared.Refusal.the-variants.{Length, Format, Selection, Geometry, TableHash, Descriptor, Placement, NoPartition, OutOfRange, Unverified, UnverifiedAbove, ExternalLevel, SessionState, Stale, SignerKind, Signature, DigestTooLong}
 
 abbrev pub number : Refusal → ℕ
 number Length = 1
@@ -19,6 +19,7 @@ number ExternalLevel = 12
 number SessionState = 13
 number Stale = 14
 number SignerKind = 15
+number Signature = 16
 number DigestTooLong = 22
 
 -- 10 and 11 carry the lowest block number of level 4 to which they apply, others carry 0
@@ -38,4 +39,5 @@ carried ExternalLevel = 0
 carried SessionState = 0
 carried Stale = 0
 carried SignerKind = 0
+carried Signature = 0
 carried DigestTooLong = 0

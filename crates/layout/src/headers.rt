@@ -1,5 +1,6 @@
 // The header's fields and the rules on them: refusals 2 to 4.
 use super::FRONT;
+use super::HEADER;
 use super::Header;
 use super::JudgedHeader;
 use super::Kind;
@@ -14,9 +15,11 @@ use number::ranges::fits_in;
 use number::ranges::five_placed;
 use number::ranges::four_placed;
 use number::ranges::two_placed;
+use number::runs::copy_into;
 ghost use mathlib.Core.Path.{_≡_};
-ghost use Prim.Native.Nat.{_+_, _<_, _^_};
-ghost use Rattle.layout.specs.Headers.{rangeAt, noSlot, slotB, disaHeader, diffHeader, selectionAllowed, geometryAllowed, judgedFields, judgedHeader};
+ghost use Prim.Native.Nat.{_+_, _<_, _≤_, _^_};
+ghost use lib.ListN.{length};
+ghost use Rattle.layout.specs.Headers.{headerBytes, rangeAt, noSlot, slotB, disaHeader, diffHeader, selectionAllowed, geometryAllowed, judgedFields, judgedHeader};
 
 // Where the active flag stands in a header of either kind.
 pub(crate) const DISA_FLAG: usize = 0x68;
@@ -25,6 +28,16 @@ pub(crate) const DIFF_FLAG: usize = 0x30;
 
 // The most bytes that a table may have.
 const TABLE_LIMIT: u64 = 0x2000;
+
+// The header's bytes.
+pub fn header_of(image: &[u8]) -> [u8; 256]
+    requires { ⌜ 0x200 ≤ length (now image) ⌝ }
+    ensures { λ r. ⌜ r ≡ headerBytes (now (image .entry)) ⌝ }
+{
+    let mut header = [0u8; 256];
+    copy_into(&mut header, 0, &image[HEADER..FRONT]);
+    header
+}
 
 // An offset and a size, one after the other.
 pub(crate) fn range_at(s: &[u8], at: usize) -> Range

@@ -8,7 +8,7 @@ pub const HEADER: usize = 0x100;
 pub const FRONT: usize = 0x200;
 
 mod descriptors;
-mod headers;
+pub mod headers;
 pub mod magic;
 pub mod opening;
 pub mod refusals;
@@ -46,6 +46,8 @@ pub enum Refusal {
     Stale,
     // The container's kind doesn't fit the type of block that is to be signed.
     SignerKind,
+    // The first 16 bytes are not the signature.
+    Signature,
     // A running digest whose total is, or would be, past the longest message.
     DigestTooLong,
 }

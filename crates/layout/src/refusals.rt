@@ -22,6 +22,7 @@ pub fn number_of(r: Refusal) -> u64
         Refusal::SessionState => 13,
         Refusal::Stale => 14,
         Refusal::SignerKind => 15,
+        Refusal::Signature => 16,
         Refusal::DigestTooLong => 22,
     }
 }
@@ -46,6 +47,7 @@ pub fn carried_by(r: Refusal) -> u64
         Refusal::SessionState => 0,
         Refusal::Stale => 0,
         Refusal::SignerKind => 0,
+        Refusal::Signature => 0,
         Refusal::DigestTooLong => 0,
     }
 }

@@ -2,7 +2,6 @@ pub mod KeptLaws
 pub mod BeginLaws
 pub mod WriteLaws
 pub mod StageLaws
-pub mod HeaderLaws
 pub mod ReadLaws
 pub mod JudgeLaws
 pub mod CallLaws

@@ -26,8 +26,13 @@ use Rattle.layout.specs.declared.Outcome.{Outcome}
 use Rattle.layout.specs.declared.Outcome.the-variants as outcome
 use Rattle.steps.specs.declared.Session.{Session}
 use Rattle.steps.specs.declared.Step.{Step}
-use Rattle.steps.specs.Sessions.{idle, begunImage, current, writeOutcome, committedImage}
-use Rattle.steps.specs.Calls.{refusalOf, After, Stepped, unchanged, done, leaving, begin, writeTo, write, commit, abandon, Abandoned, beginIn, writeIn, commitIn}
+use Rattle.steps.specs.Sessions.{idle, begunImage, current, writeOutcome}
+use Rattle.signing.specs.declared.Signer.{Signer}
+use Rattle.signing.specs.Blocks.{signingBlock}
+use Rattle.signing.specs.Calls.{Answer, signed, outcomeOf}
+use Rattle.signing.proofs.AnswerLaws.{refused-is, accepted-is}
+use Rattle.commits.specs.Committing.{committedImage, committedSigned}
+use Rattle.steps.specs.Calls.{refusalOf, After, Stepped, unchanged, done, leaving, begin, writeTo, write, commit, commitSigned, abandon, Abandoned, beginIn, inSession, writeOn, commitOn, commitBy}
 use Rattle.steps.proofs.WriteLaws.{write-rules}
 
 -- which arm of a test is taken
@@ -70,13 +75,9 @@ module _ (image : List ℕ) (answer : Opened) (a : answer ≡ opened image) (ses
     unfolding begin
     begin-unopened = stepped-refused step image session refusal _ (rw is) s
 
-    pub write-unopened : (q place : ℕ) (bytes : List ℕ) → Stepped step image (write image session q place bytes)
-    unfolding write
-    write-unopened q place bytes = stepped-refused step image session refusal _ (rw is) s
-
-    pub commit-unopened : Stepped step image (commit image session)
-    unfolding commit
-    commit-unopened = stepped-refused step image session refusal _ (rw is) s
+    -- write, commit and signed commit
+    pub session-unopened : (next : Container → After) → Stepped step image (inSession image session next (opened image))
+    session-unopened next = stepped-refused step image session refusal _ (rw is) s
 
   -- ---- one that does
 
@@ -101,56 +102,53 @@ module _ (image : List ℕ) (answer : Opened) (a : answer ≡ opened image) (ses
         stepped-done _ (begunImage c image) left (record { begun = true; header = headerBytes image }) _ (begun-is ∙ no-of (session .begun) _ _ b) refl
         (ap (λ (x : List ℕ). record { begun = true; header = x }) h) l
 
-    committed-is : commit image session
-        ≡ cond (session .begun) (cond (current c image session) (done (committedImage c image) idle) (unchanged image session Stale)) (unchanged image session SessionState)
-    unfolding commit
-    committed-is = ap (commitIn image session) valid
+    -- write, commit and signed commit: 13, 14
+    module _ (next : Container → After) where
+      session-is : inSession image session next (opened image)
+          ≡ cond (session .begun) (cond (current c image session) (next c) (unchanged image session Stale)) (unchanged image session SessionState)
+      session-is = ap (inSession image session next) valid
 
-    written-is : (q place : ℕ) (bytes : List ℕ) → write image session q place bytes
-        ≡ cond (session .begun)
-        (cond (current c image session)
-        (cond (ltb q (partitions c)) (writeTo c image session q place bytes) (unchanged image session NoPartition))
-        (unchanged image session Stale))
-        (unchanged image session SessionState)
-    unfolding write
-    written-is q place bytes = ap (writeIn image session q place bytes) valid
+      pub session-idle : session .begun ≡ false → (step : Step) → Refuses step session SessionState → Stepped step image (inSession image session next (opened image))
+      session-idle b step s = stepped-refused step image session SessionState _ (session-is ∙ no-of (session .begun) _ _ b) s
 
-    -- 13
-    pub write-idle : session .begun ≡ false → (step : Step) → Refuses step session SessionState → (q place : ℕ) (bytes : List ℕ) → Stepped step image (write image session q place bytes)
-    write-idle b step s q place bytes = stepped-refused step image session SessionState _ (written-is q place bytes ∙ no-of (session .begun) _ _ b) s
+      module _ (b : session .begun ≡ true) where
+        pub session-stale : current c image session ≡ false → (step : Step) → Refuses step session Stale → Stepped step image (inSession image session next (opened image))
+        session-stale n step s = stepped-refused step image session Stale _ (session-is ∙ yes-of (session .begun) _ _ b ∙ no-of (current c image session) _ _ n) s
 
-    pub commit-idle : session .begun ≡ false → (step : Step) → Refuses step session SessionState → Stepped step image (commit image session)
-    commit-idle b step s = stepped-refused step image session SessionState _ (committed-is ∙ no-of (session .begun) _ _ b) s
+        module _ (n : current c image session ≡ true) where
+          reached : inSession image session next (opened image) ≡ next c
+          reached = session-is ∙ yes-of (session .begun) _ _ b ∙ yes-of (current c image session) _ _ n
 
-    -- 14
-    module _ (b : session .begun ≡ true) where
-      pub write-stale : current c image session ≡ false → (step : Step) → Refuses step session Stale → (q place : ℕ) (bytes : List ℕ) → Stepped step image (write image session q place bytes)
-      write-stale n step s q place bytes =
-          stepped-refused step image session Stale _
-          (written-is q place bytes ∙ yes-of (session .begun) _ _ b ∙ no-of (current c image session) _ _ n) s
+          pub session-goes-on : (step : Step) (left : List ℕ) → Stepped step left (next c) → Stepped step left (inSession image session next (opened image))
+          session-goes-on step left s = subst (Stepped step left) (sym reached) s
 
-      pub commit-stale : current c image session ≡ false → (step : Step) → Refuses step session Stale → Stepped step image (commit image session)
-      commit-stale n step s =
-          stepped-refused step image session Stale _ (committed-is ∙ yes-of (session .begun) _ _ b ∙ no-of (current c image session) _ _ n) s
+-- ---- 8
 
-      module _ (n : current c image session ≡ true) where
-        pub commit-done : (next : Session) (left : List ℕ) → next ≡ idle → left ≡ committedImage c image
-            → Stepped (record { outcome = outcome.Accepted; session = next }) left (commit image session)
-        commit-done next left i l =
-            stepped-done _ (committedImage c image) left idle _ (committed-is ∙ yes-of (session .begun) _ _ b ∙ yes-of (current c image session) _ _ n) refl i l
+pub write-missing : (image : List ℕ) (c : Container) (session : Session) (q place : ℕ) (bytes : List ℕ) → ltb q (partitions c) ≡ false
+    → (step : Step) → Refuses step session NoPartition → Stepped step image (writeOn image session q place bytes c)
+write-missing image c session q place bytes m step s = stepped-refused step image session NoPartition _ (no-of (ltb q (partitions c)) _ _ m) s
 
-        -- 8
-        pub write-missing : (q place : ℕ) (bytes : List ℕ) → ltb q (partitions c) ≡ false → (step : Step) → Refuses step session NoPartition
-            → Stepped step image (write image session q place bytes)
-        write-missing q place bytes m step s =
-            stepped-refused step image session NoPartition _
-            (written-is q place bytes ∙ yes-of (session .begun) _ _ b ∙ yes-of (current c image session) _ _ n ∙ no-of (ltb q (partitions c)) _ _ m) s
+pub write-there : (image : List ℕ) (c : Container) (session : Session) (q place : ℕ) (bytes left : List ℕ) → ltb q (partitions c) ≡ true
+    → (step : Step) → Stepped step left (writeTo c image session q place bytes) → Stepped step left (writeOn image session q place bytes c)
+write-there image c session q place bytes left m step s = subst (Stepped step left) (sym (yes-of (ltb q (partitions c)) _ _ m)) s
 
-        pub write-there : (q place : ℕ) (bytes left : List ℕ) → ltb q (partitions c) ≡ true → (step : Step) → Stepped step left (writeTo c image session q place bytes)
-            → Stepped step left (write image session q place bytes)
-        write-there q place bytes left m step s =
-            subst (Stepped step left)
-            (sym (written-is q place bytes ∙ yes-of (session .begun) _ _ b ∙ yes-of (current c image session) _ _ n ∙ yes-of (ltb q (partitions c)) _ _ m)) s
+-- ---- commit, and the signed one with its 15
+
+pub commit-done : (image : List ℕ) (c : Container) (next : Session) (left : List ℕ) → next ≡ idle → left ≡ committedImage c image
+    → Stepped (record { outcome = outcome.Accepted; session = next }) left (commitOn image c)
+commit-done image c next left i l = stepped-done _ (committedImage c image) left idle _ refl refl i l
+
+module _ (image : List ℕ) (c : Container) (session : Session) (key : List ℕ) (signer : Signer) (answer : Outcome) (a : answer ≡ outcomeOf (signed image signer)) where
+  pub signer-unfit : (r : Refusal) → answer ≡ outcome.Refused r → (step : Step) → Refuses step session r
+      → Stepped step image (commitBy image session key signer (signed image signer) c)
+  signer-unfit r e step s =
+      stepped-refused step image session r _ (ap (λ (x : Answer). commitBy image session key signer x c) (refused-is (signed image signer) r (sym a ∙ e))) s
+
+  pub signed-done : answer ≡ outcome.Accepted → (next : Session) (left : List ℕ) → next ≡ idle → left ≡ committedSigned c image key signer
+      → Stepped (record { outcome = outcome.Accepted; session = next }) left (commitBy image session key signer (signed image signer) c)
+  signed-done e next left i l =
+      stepped-done _ (committedSigned c image key signer) left idle _
+      (ap (λ (x : Answer). commitBy image session key signer x c) (accepted-is image signer (sym a ∙ e) .0)) refl i l
 
 -- ---- a write to a partition that is there
 

@@ -24,7 +24,10 @@ use Rattle.steps.specs.declared.Count.the-variants as count
 use Rattle.steps.specs.declared.Session.{Session}
 use Rattle.steps.specs.declared.Step.{Step}
 use Rattle.steps.specs.Reading.{Read, readFrom, verdictOn, countIn}
-use Rattle.steps.specs.Sessions.{idle, begunImage, current, writeOutcome, committedImage}
+use Rattle.steps.specs.Sessions.{idle, begunImage, current, writeOutcome}
+use Rattle.signing.specs.declared.Signer.{Signer}
+use Rattle.signing.specs.Calls.{Answer, Signs, Refused, signed}
+use Rattle.commits.specs.Committing.{committedImage, committedSigned}
 
 -- why opening refuses; of an image that opens nobody asks
 abbrev pub refusalOf : Opened → Refusal
@@ -116,29 +119,34 @@ writeTo c image session q place bytes =
     cond (stagedView c q .external) (unchanged image session ExternalLevel)
     (leaving (writeOutcome (stagedView c q) image place (length bytes)) image (writtenTo (stagedView c q) place bytes image) session)
 
--- write: 13, 14, 8, then these
-abbrev pub writeIn : List ℕ → Session → (q place : ℕ) → List ℕ → Opened → After
-writeIn image session q place bytes (opening.Refused r) = unchanged image session r
-writeIn image session q place bytes (opening.Valid c) =
-    cond (session .begun)
-    (cond (current c image session)
-    (cond (ltb q (partitions c)) (writeTo c image session q place bytes) (unchanged image session NoPartition))
-    (unchanged image session Stale))
-    (unchanged image session SessionState)
+-- what a call of a begun session checks first: opening's refusals, 13, 14
+abbrev pub inSession : List ℕ → Session → (Container → After) → Opened → After
+inSession image session next (opening.Refused r) = unchanged image session r
+inSession image session next (opening.Valid c) =
+    cond (session .begun) (cond (current c image session) (next c) (unchanged image session Stale)) (unchanged image session SessionState)
+
+-- write: these, 8, and the rest
+abbrev pub writeOn : List ℕ → Session → (q place : ℕ) → List ℕ → Container → After
+writeOn image session q place bytes c =
+    cond (ltb q (partitions c)) (writeTo c image session q place bytes) (unchanged image session NoPartition)
 
 unfoldable pub write : List ℕ → Session → (q place : ℕ) → List ℕ → After
-write image session q place bytes = writeIn image session q place bytes (opened image)
+write image session q place bytes = inSession image session (writeOn image session q place bytes) (opened image)
 
--- commit: 13, 14
-abbrev pub commitIn : List ℕ → Session → Opened → After
-commitIn image session (opening.Refused r) = unchanged image session r
-commitIn image session (opening.Valid c) =
-    cond (session .begun)
-    (cond (current c image session) (done (committedImage c image) idle) (unchanged image session Stale))
-    (unchanged image session SessionState)
+-- commit: these alone
+abbrev pub commitOn : List ℕ → Container → After
+commitOn image c = done (committedImage c image) idle
 
 unfoldable pub commit : List ℕ → Session → After
-commit image session = commitIn image session (opened image)
+commit image session = inSession image session (commitOn image) (opened image)
+
+-- a signed commit: these, then 15; the old signature is not looked at
+abbrev pub commitBy : List ℕ → Session → (key : List ℕ) → Signer → Answer → Container → After
+commitBy image session key signer (Refused r) c = unchanged image session r
+commitBy image session key signer (Signs block) c = done (committedSigned c image key signer) idle
+
+unfoldable pub commitSigned : List ℕ → Session → (key : List ℕ) → Signer → After
+commitSigned image session key signer = inSession image session (commitBy image session key signer (signed image signer)) (opened image)
 
 -- abandon: 13 alone; it does not look at the image
 pub record Abandoned : Type 0 where

@@ -1,4 +1,4 @@
--- A session: what begin, write and commit leave, and when its image is the one that it began on.
+-- A session: what begin leaves, when its image is the one that it began on, and what a write answers.
 use Prim.Native.Nat.{ℕ, zero, suc, _+_, _-_, _*_}
 use mathlib.Core.Bool.{Bool, true, false, not, _&&_, _||_, cond}
 use mathlib.Core.List.{List}
@@ -8,12 +8,11 @@ use lib.Dec.{leb, ltb, eqb}
 use Rattle.number.specs.declared.Range.{Range}
 use Rattle.number.specs.Ranges.{part}
 use Rattle.number.specs.Bytes.{within, sameBytes}
-use Rattle.sha256.specs.Sha256.{sha256}
 use Rattle.layout.specs.declared.Slot.{Slot}
 use Rattle.layout.specs.declared.Partition.{Partition}
 use Rattle.layout.specs.declared.Container.{Container}
 use Rattle.layout.specs.declared.Refusal.the-variants.{Unverified, UnverifiedAbove}
-use Rattle.layout.specs.Headers.{headerRange, headerBytes, flagOffset, hashRange}
+use Rattle.layout.specs.Headers.{headerBytes}
 use Rattle.layout.specs.Tables.{active, inactive}
 use Rattle.dpfs.specs.Staging.{begun}
 use Rattle.ivfc.specs.declared.View.{View}
@@ -99,15 +98,3 @@ writeOutcome view image place n =
     refuseOutside view place n
     (refuseLowest (aboveVerified view image) UnverifiedAbove view place n
     (endsOutcome view image place n))
-
--- ---- commit
-
--- the flag is flipped and the table hash becomes that of the staged table
-unfoldable pub headerCommitted : Container → List ℕ → List ℕ
-headerCommitted c image =
-    sets (set (headerBytes image) (flagOffset (c .header .kind)) (1 - c .header .flag))
-    (hashRange (c .header .kind) .offset) (sha256 (part image (inactive (c .header))))
-
--- only those header bytes change
-unfoldable pub committedImage : Container → List ℕ → List ℕ
-committedImage c image = sets image (headerRange .offset) (headerCommitted c image)

@@ -4,7 +4,6 @@ use layout::Refusal;
 
 pub mod answers;
 pub mod beginning;
-pub mod committing;
 pub mod judging;
 pub mod staleness;
 pub mod viewing;

@@ -16,10 +16,10 @@ refused-answer-requires : tie.Need-refused-answer-requires
 refused-answer-requires c κs = search needs
 
 returns : tie.Need-returns
-returns c = cc
+returns c = rw (c .before .enum-told .given .1) (c .pack .ensures)
 
 returns-2 : tie.Need-returns-2
-returns-2 c = cc
+returns-2 c = rw (c .before .before .answer .given .1) (c .refused-answer .ensures)
 
 pub opened-answer-spec : {M : Type 1} → statement M
 opened-answer-spec =

@@ -22,13 +22,13 @@ refused-answer-requires : tie.Need-refused-answer-requires
 refused-answer-requires c κs = search needs
 
 returns : tie.Need-returns
-returns c = cc
+returns c = rw (c .before .enum-told .given .1) (c .pack .ensures)
 
 returns-2 : tie.Need-returns-2
-returns-2 c = cc
+returns-2 c = rw (c .before .enum-told2 .given .1) (c .pack2 .ensures)
 
 returns-3 : tie.Need-returns-3
-returns-3 c = cc
+returns-3 c = rw (c .before .before .verdict .given .1) (c .refused-answer .ensures)
 
 pub verdict-answer-spec : {M : Type 1} → statement M
 verdict-answer-spec =

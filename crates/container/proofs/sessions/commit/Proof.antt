@@ -1,6 +1,8 @@
-use Rattle.number.proofs.Tests.{failed, passed}
+-- `container::sessions::commit` meets its contract. Assumes nothing.
+use Rattle.steps.proofs.SessionLaws.{guaranteed, session-unopened, session-idle, session-stale, session-goes-on, commit-done}
+use Rattle.steps.specs.Calls.{commit}
 use borrow.Author.Tests.{not-true, not-false}
-use Rattle.steps.proofs.SessionLaws.{commit-unopened, commit-idle, commit-stale, commit-done, guaranteed}
+use Rattle.number.proofs.Tests.{failed, passed}
 use borrow.Author.Needs.{needs}
 use Rattle.container.proofs.sessions.commit.Statement.{statement}
 use Rattle.container.proofs.sessions.commit.Tie as tie
@@ -24,7 +26,8 @@ same-length : tie.Need-same-length
 same-length c = search needs
 
 returns : tie.Need-returns
-returns c = commit-unopened (c .before .before .before .before .before .before .before .args .image .now) (c .before .before .before .before .«open» .result) (c .before .before .before .before .«open» .ensures) (c .before .before .before .before .before .before .before .args .session) (c .before .before .enum-told .given .0 .0) (c .before .before .enum-told .given .1) (c .before .refusal-of .result) (c .before .refusal-of .ensures) (c .refused .result) (c .refused .ensures)
+unfolding commit
+returns c = session-unopened _ _ (c .before .before .before .before .«open» .ensures) _ _ (c .before .before .enum-told .given .1) _ (c .before .refusal-of .ensures) _ (c .refused .ensures) _
 
 refused-requires-2 : tie.Need-refused-requires-2
 refused-requires-2 c κs = search needs
@@ -33,10 +36,11 @@ same-length-2 : tie.Need-same-length-2
 same-length-2 c = search needs
 
 returns-2 : tie.Need-returns-2
-returns-2 c = commit-idle (c .before .before .before .before .before .before .before .before .before .args .image .now) (c .before .before .before .before .before .before .«open» .result) (c .before .before .before .before .before .before .«open» .ensures) (c .before .before .before .before .before .before .before .before .before .args .session) (c .before .before .before .before .answer .given .0 .0) (c .before .before .before .before .answer .given .1) (not-true (c .before .before .before .before .before .before .before .before .before .args .session .begun) (c .before .if1 .taken)) (c .refused2 .result) (c .refused2 .ensures)
+unfolding commit
+returns-2 c = session-idle _ _ (c .before .before .before .before .before .before .«open» .ensures) _ _ (c .before .before .before .before .answer .given .1) _ (not-true _ (c .before .if1 .taken)) _ (c .refused2 .ensures)
 
 is-current-requires : tie.Need-is-current-requires
-is-current-requires c κs = guaranteed (c .before .before .before .before .before .before .before .before .before .args .image .now) (c .before .before .before .before .before .before .«open» .result) (c .before .before .before .before .before .before .«open» .ensures) (c .before .before .before .before .before .before .before .before .before .args .session) (c .before .before .before .before .answer .given .0 .0) (c .before .before .before .before .answer .given .1)
+is-current-requires c κs = guaranteed _ _ (c .before .before .before .before .before .before .«open» .ensures) (c .before .before .before .before .before .before .before .before .before .args .session) _ (c .before .before .before .before .answer .given .1)
 
 refused-requires-3 : tie.Need-refused-requires-3
 refused-requires-3 c κs = search needs
@@ -45,10 +49,11 @@ same-length-3 : tie.Need-same-length-3
 same-length-3 c = search needs
 
 returns-3 : tie.Need-returns-3
-returns-3 c = commit-stale (c .before .before .before .before .before .before .before .before .before .before .before .before .args .image .now) (c .before .before .before .before .before .before .before .before .before .«open» .result) (c .before .before .before .before .before .before .before .before .before .«open» .ensures) (c .before .before .before .before .before .before .before .before .before .before .before .before .args .session) (c .before .before .before .before .before .before .before .answer .given .0 .0) (c .before .before .before .before .before .before .before .answer .given .1) (not-false (c .before .before .before .before .before .before .before .before .before .before .before .before .args .session .begun) (c .before .before .before .before .if1 .left)) (failed (c .before .before .is-current .ensures) (c .before .if2 .taken)) (c .refused3 .result) (c .refused3 .ensures)
+unfolding commit
+returns-3 c = session-stale _ _ (c .before .before .before .before .before .before .before .before .before .«open» .ensures) _ _ (c .before .before .before .before .before .before .before .answer .given .1) _ (not-false _ (c .before .before .before .before .if1 .left)) (failed (c .before .before .is-current .ensures) (c .before .if2 .taken)) _ (c .refused3 .ensures)
 
 switch-tables-requires : tie.Need-switch-tables-requires
-switch-tables-requires c κs = guaranteed (c .before .before .before .before .before .before .before .before .before .before .before .before .args .image .now) (c .before .before .before .before .before .before .before .before .before .«open» .result) (c .before .before .before .before .before .before .before .before .before .«open» .ensures) (c .before .before .before .before .before .before .before .before .before .before .before .before .args .session) (c .before .before .before .before .before .before .before .answer .given .0 .0) (c .before .before .before .before .before .before .before .answer .given .1)
+switch-tables-requires c κs = guaranteed _ _ (c .before .before .before .before .before .before .before .before .before .«open» .ensures) (c .before .before .before .before .before .before .before .before .before .before .before .before .args .session) _ (c .before .before .before .before .before .before .before .answer .given .1)
 
 new-requires : tie.Need-new-requires
 new-requires c κs = search needs
@@ -57,7 +62,8 @@ same-length-4 : tie.Need-same-length-4
 same-length-4 c = search needs
 
 returns-4 : tie.Need-returns-4
-returns-4 c = commit-done (c .before .before .before .before .before .before .before .before .before .before .before .before .before .before .before .before .args .image .now) (c .before .before .before .before .before .before .before .before .before .before .before .before .before .«open» .result) (c .before .before .before .before .before .before .before .before .before .before .before .before .before .«open» .ensures) (c .before .before .before .before .before .before .before .before .before .before .before .before .before .before .before .before .args .session) (c .before .before .before .before .before .before .before .before .before .before .before .answer .given .0 .0) (c .before .before .before .before .before .before .before .before .before .before .before .answer .given .1) (not-false (c .before .before .before .before .before .before .before .before .before .before .before .before .before .before .before .before .args .session .begun) (c .before .before .before .before .before .before .before .before .if1 .left)) (passed (c .before .before .before .before .before .before .is-current .ensures) (c .before .before .before .before .before .if2 .left)) (c .new .result) _ (c .new .ensures) (c .before .before .before .switch-tables .ensures)
+unfolding commit
+returns-4 c = session-goes-on _ _ (c .before .before .before .before .before .before .before .before .before .before .before .before .before .«open» .ensures) _ _ (c .before .before .before .before .before .before .before .before .before .before .before .answer .given .1) _ (not-false _ (c .before .before .before .before .before .before .before .before .if1 .left)) (passed (c .before .before .before .before .before .before .is-current .ensures) (c .before .before .before .before .before .if2 .left)) _ _ (commit-done _ _ _ _ (c .new .ensures) (c .before .before .before .switch-tables .ensures))
 
 pub commit-spec : {M : Type 1} → statement M
 commit-spec =

@@ -1,7 +1,9 @@
+-- `container::sessions::write` meets its contract. Assumes nothing.
+use Rattle.steps.proofs.SessionLaws.{guaranteed, session-unopened, session-idle, session-stale, session-goes-on, write-missing, write-there}
+use Rattle.steps.specs.Calls.{write}
 use Rattle.views.specs.Places.{partitions}
-use Rattle.number.proofs.Tests.{failed, passed}
 use borrow.Author.Tests.{not-true, not-false, ltb-true}
-use Rattle.steps.proofs.SessionLaws.{write-unopened, write-idle, write-stale, write-missing, write-there, guaranteed}
+use Rattle.number.proofs.Tests.{failed, passed}
 use borrow.Author.Needs.{needs}
 use Rattle.container.proofs.sessions.write.Statement.{statement}
 use Rattle.container.proofs.sessions.write.Tie as tie
@@ -25,7 +27,8 @@ same-length : tie.Need-same-length
 same-length c = search needs
 
 returns : tie.Need-returns
-returns c = write-unopened (c .before .before .before .before .before .before .before .before .args .image .now) (c .before .before .before .before .«open» .result) (c .before .before .before .before .«open» .ensures) (c .before .before .before .before .before .before .before .before .args .session) (c .before .before .enum-told .given .0 .0) (c .before .before .enum-told .given .1) (c .before .refusal-of .result) (c .before .refusal-of .ensures) (c .refused .result) (c .refused .ensures) (c .before .before .before .before .before .before .before .before .args .partition) (c .before .before .before .before .before .before .before .before .args .place) (c .before .before .before .before .before .before .before .before .args .bytes .now)
+unfolding write
+returns c = session-unopened _ _ (c .before .before .before .before .«open» .ensures) _ _ (c .before .before .enum-told .given .1) _ (c .before .refusal-of .ensures) _ (c .refused .ensures) _
 
 refused-requires-2 : tie.Need-refused-requires-2
 refused-requires-2 c κs = search needs
@@ -34,10 +37,11 @@ same-length-2 : tie.Need-same-length-2
 same-length-2 c = search needs
 
 returns-2 : tie.Need-returns-2
-returns-2 c = write-idle (c .before .before .before .before .before .before .before .before .before .before .args .image .now) (c .before .before .before .before .before .before .«open» .result) (c .before .before .before .before .before .before .«open» .ensures) (c .before .before .before .before .before .before .before .before .before .before .args .session) (c .before .before .before .before .answer .given .0 .0) (c .before .before .before .before .answer .given .1) (not-true (c .before .before .before .before .before .before .before .before .before .before .args .session .begun) (c .before .if1 .taken)) (c .refused2 .result) (c .refused2 .ensures) (c .before .before .before .before .before .before .before .before .before .before .args .partition) (c .before .before .before .before .before .before .before .before .before .before .args .place) (c .before .before .before .before .before .before .before .before .before .before .args .bytes .now)
+unfolding write
+returns-2 c = session-idle _ _ (c .before .before .before .before .before .before .«open» .ensures) _ _ (c .before .before .before .before .answer .given .1) _ (not-true _ (c .before .if1 .taken)) _ (c .refused2 .ensures)
 
 is-current-requires : tie.Need-is-current-requires
-is-current-requires c κs = guaranteed (c .before .before .before .before .before .before .before .before .before .before .args .image .now) (c .before .before .before .before .before .before .«open» .result) (c .before .before .before .before .before .before .«open» .ensures) (c .before .before .before .before .before .before .before .before .before .before .args .session) (c .before .before .before .before .answer .given .0 .0) (c .before .before .before .before .answer .given .1)
+is-current-requires c κs = guaranteed _ _ (c .before .before .before .before .before .before .«open» .ensures) (c .before .before .before .before .before .before .before .before .before .before .args .session) _ (c .before .before .before .before .answer .given .1)
 
 refused-requires-3 : tie.Need-refused-requires-3
 refused-requires-3 c κs = search needs
@@ -46,7 +50,8 @@ same-length-3 : tie.Need-same-length-3
 same-length-3 c = search needs
 
 returns-3 : tie.Need-returns-3
-returns-3 c = write-stale (c .before .before .before .before .before .before .before .before .before .before .before .before .before .args .image .now) (c .before .before .before .before .before .before .before .before .before .«open» .result) (c .before .before .before .before .before .before .before .before .before .«open» .ensures) (c .before .before .before .before .before .before .before .before .before .before .before .before .before .args .session) (c .before .before .before .before .before .before .before .answer .given .0 .0) (c .before .before .before .before .before .before .before .answer .given .1) (not-false (c .before .before .before .before .before .before .before .before .before .before .before .before .before .args .session .begun) (c .before .before .before .before .if1 .left)) (failed (c .before .before .is-current .ensures) (c .before .if2 .taken)) (c .refused3 .result) (c .refused3 .ensures) (c .before .before .before .before .before .before .before .before .before .before .before .before .before .args .partition) (c .before .before .before .before .before .before .before .before .before .before .before .before .before .args .place) (c .before .before .before .before .before .before .before .before .before .before .before .before .before .args .bytes .now)
+unfolding write
+returns-3 c = session-stale _ _ (c .before .before .before .before .before .before .before .before .before .«open» .ensures) _ _ (c .before .before .before .before .before .before .before .answer .given .1) _ (not-false _ (c .before .before .before .before .if1 .left)) (failed (c .before .before .is-current .ensures) (c .before .if2 .taken)) _ (c .refused3 .ensures)
 
 has-partition-requires : tie.Need-has-partition-requires
 has-partition-requires c κs = search needs
@@ -58,16 +63,18 @@ same-length-4 : tie.Need-same-length-4
 same-length-4 c = search needs
 
 returns-4 : tie.Need-returns-4
-returns-4 c = write-missing (c .before .before .before .before .before .before .before .before .before .before .before .before .before .before .before .args .image .now) (c .before .before .before .before .before .before .before .before .before .before .before .«open» .result) (c .before .before .before .before .before .before .before .before .before .before .before .«open» .ensures) (c .before .before .before .before .before .before .before .before .before .before .before .before .before .before .before .args .session) (c .before .before .before .before .before .before .before .before .before .answer .given .0 .0) (c .before .before .before .before .before .before .before .before .before .answer .given .1) (not-false (c .before .before .before .before .before .before .before .before .before .before .before .before .before .before .before .args .session .begun) (c .before .before .before .before .before .before .if1 .left)) (passed (c .before .before .before .before .is-current .ensures) (c .before .before .before .if2 .left)) (c .before .before .before .before .before .before .before .before .before .before .before .before .before .before .before .args .partition) (c .before .before .before .before .before .before .before .before .before .before .before .before .before .before .before .args .place) (c .before .before .before .before .before .before .before .before .before .before .before .before .before .before .before .args .bytes .now) (failed (c .before .before .has-partition .ensures) (c .before .if3 .taken)) (c .refused4 .result) (c .refused4 .ensures)
+unfolding write
+returns-4 c = session-goes-on _ _ (c .before .before .before .before .before .before .before .before .before .before .before .«open» .ensures) _ _ (c .before .before .before .before .before .before .before .before .before .answer .given .1) _ (not-false _ (c .before .before .before .before .before .before .if1 .left)) (passed (c .before .before .before .before .is-current .ensures) (c .before .before .before .if2 .left)) _ _ (write-missing _ (c .before .before .before .before .before .before .before .before .before .answer .given .0 .0) _ (c .before .before .before .before .before .before .before .before .before .before .before .before .before .before .before .args .partition) (c .before .before .before .before .before .before .before .before .before .before .before .before .before .before .before .args .place) (c .before .before .before .before .before .before .before .before .before .before .before .before .before .before .before .args .bytes .now) (failed (c .before .before .has-partition .ensures) (c .before .if3 .taken)) _ (c .refused4 .ensures))
 
 write-partition-requires : tie.Need-write-partition-requires
-write-partition-requires c κs = (guaranteed (c .before .before .before .before .before .before .before .before .before .before .before .before .before .before .before .args .image .now) (c .before .before .before .before .before .before .before .before .before .before .before .«open» .result) (c .before .before .before .before .before .before .before .before .before .before .before .«open» .ensures) (c .before .before .before .before .before .before .before .before .before .before .before .before .before .before .before .args .session) (c .before .before .before .before .before .before .before .before .before .answer .given .0 .0) (c .before .before .before .before .before .before .before .before .before .answer .given .1), ltb-true (c .before .before .before .before .before .before .before .before .before .before .before .before .before .before .before .args .partition) (partitions (c .before .before .before .before .before .before .before .before .before .answer .given .0 .0)) (passed (c .before .before .has-partition .ensures) (c .before .if3 .left)))
+write-partition-requires c κs = (guaranteed _ _ (c .before .before .before .before .before .before .before .before .before .before .before .«open» .ensures) (c .before .before .before .before .before .before .before .before .before .before .before .before .before .before .before .args .session) _ (c .before .before .before .before .before .before .before .before .before .answer .given .1), ltb-true (c .before .before .before .before .before .before .before .before .before .before .before .before .before .before .before .args .partition) (partitions (c .before .before .before .before .before .before .before .before .before .answer .given .0 .0)) (passed (c .before .before .has-partition .ensures) (c .before .if3 .left)))
 
 same-length-5 : tie.Need-same-length-5
 same-length-5 c = search needs
 
 returns-5 : tie.Need-returns-5
-returns-5 c = write-there (c .before .before .before .before .before .before .before .before .before .before .before .before .before .before .before .before .before .before .args .image .now) (c .before .before .before .before .before .before .before .before .before .before .before .before .before .before .«open» .result) (c .before .before .before .before .before .before .before .before .before .before .before .before .before .before .«open» .ensures) (c .before .before .before .before .before .before .before .before .before .before .before .before .before .before .before .before .before .before .args .session) (c .before .before .before .before .before .before .before .before .before .before .before .before .answer .given .0 .0) (c .before .before .before .before .before .before .before .before .before .before .before .before .answer .given .1) (not-false (c .before .before .before .before .before .before .before .before .before .before .before .before .before .before .before .before .before .before .args .session .begun) (c .before .before .before .before .before .before .before .before .before .if1 .left)) (passed (c .before .before .before .before .before .before .before .is-current .ensures) (c .before .before .before .before .before .before .if2 .left)) (c .before .before .before .before .before .before .before .before .before .before .before .before .before .before .before .before .before .before .args .partition) (c .before .before .before .before .before .before .before .before .before .before .before .before .before .before .before .before .before .before .args .place) (c .before .before .before .before .before .before .before .before .before .before .before .before .before .before .before .before .before .before .args .bytes .now) _ (passed (c .before .before .before .before .before .has-partition .ensures) (c .before .before .before .before .if3 .left)) (c .before .before .write-partition .result) (c .before .before .write-partition .ensures)
+unfolding write
+returns-5 c = session-goes-on _ _ (c .before .before .before .before .before .before .before .before .before .before .before .before .before .before .«open» .ensures) _ _ (c .before .before .before .before .before .before .before .before .before .before .before .before .answer .given .1) _ (not-false _ (c .before .before .before .before .before .before .before .before .before .if1 .left)) (passed (c .before .before .before .before .before .before .before .is-current .ensures) (c .before .before .before .before .before .before .if2 .left)) _ _ (write-there _ (c .before .before .before .before .before .before .before .before .before .before .before .before .answer .given .0 .0) _ (c .before .before .before .before .before .before .before .before .before .before .before .before .before .before .before .before .before .before .args .partition) (c .before .before .before .before .before .before .before .before .before .before .before .before .before .before .before .before .before .before .args .place) (c .before .before .before .before .before .before .before .before .before .before .before .before .before .before .before .before .before .before .args .bytes .now) _ (passed (c .before .before .before .before .before .has-partition .ensures) (c .before .before .before .before .if3 .left)) _ (c .before .before .write-partition .ensures))
 
 pub write-spec : {M : Type 1} → statement M
 write-spec =

@@ -4,11 +4,10 @@ use mathlib.Core.List.{List}
 use mathlib.Core.Logic.{_⊎_, inl, inr}
 use Prim.Native.Nat.{ℕ, _+_, _-_, _≤_, _<_}
 use native.Mathlib.Omega.{arith}
-use lib.ListN.{length, set, take, drop, replicate, length-set, length-replicate}
+use lib.ListN.{length, set, length-set}
 use lib.Seq.{sets}
 use Rattle.number.specs.declared.Range.{Range}
 use Rattle.number.specs.Ranges.{part}
-use Rattle.number.proofs.ListLaws.{length-part, sets-whole}
 use Rattle.sha256.specs.Sha256.{sha256}
 use Rattle.sha256.proofs.Laws.{length-sha256}
 use Rattle.layout.specs.declared.Kind.{Kind}
@@ -17,11 +16,10 @@ use Rattle.layout.specs.declared.Container.{Container}
 use Rattle.layout.specs.Headers.{headerBytes, flagOffset, hashRange}
 use Rattle.layout.specs.Tables.{inactive}
 use Rattle.layout.specs.Guarantees.{Guarantees}
-use Rattle.steps.specs.Sessions.{headerCommitted, committedImage}
-
-pub header-length : (image : List ℕ) → 0x200 ≤ length image → length (headerBytes image) ≡ 256
-unfolding part
-header-length image h = length-part image 0x100 0x100 (omega arith)
+use Rattle.signing.specs.declared.Signer.{Signer}
+use Rattle.signatures.specs.Signatures.{signature}
+use Rattle.layout.proofs.HeaderLaws.{header-length}
+use Rattle.commits.specs.Committing.{headerCommitted, committedImage, storedSigned, committedSigned}
 
 pub flag-small : (image : List ℕ) (c : Container) → Guarantees image c → c .header .flag ≤ 1
 flag-small image c g = go (g .header .flag)
@@ -40,11 +38,6 @@ hash-inside Diff = omega arith
 
 -- ---- as the functions cite them
 
-pub header-copied : (image zeros after : List ℕ) → length zeros ≡ 256 → 0x200 ≤ length image → after ≡ sets zeros 0 (take 0x100 (drop 0x100 image))
-    → after ≡ headerBytes image
-unfolding part
-header-copied image zeros after z h e = e ∙ sets-whole zeros (take 0x100 (drop 0x100 image)) (header-length image h ∙ sym z)
-
 module _ (image : List ℕ) (c : Container) (g : Guarantees image c) (header : List ℕ) (same : header ≡ headerBytes image) (at off : ℕ)
     (flag : at ≡ flagOffset (c .header .kind)) (place : off ≡ hashRange (c .header .kind) .offset)
     (table digest : List ℕ) (range : Range) (r : range ≡ inactive (c .header)) (t : table ≡ part image range) (d : digest ≡ sha256 table) where
@@ -59,3 +52,8 @@ module _ (image : List ℕ) (c : Container) (g : Guarantees image c) (header : L
 pub image-made : (image header after : List ℕ) (c : Container) → header ≡ headerCommitted c image → after ≡ sets image 0x100 header → after ≡ committedImage c image
 unfolding committedImage
 image-made image header after c h e = rw (← h) e
+
+pub signed-made : (image key header code after : List ℕ) (c : Container) (signer : Signer) → header ≡ headerCommitted c image
+    → code ≡ signature key signer header → after ≡ storedSigned image code header → after ≡ committedSigned c image key signer
+unfolding committedSigned
+signed-made image key header code after c signer h s e = e ∙ rw (s, h)

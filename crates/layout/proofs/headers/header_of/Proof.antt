@@ -1,8 +1,8 @@
 use mathlib.Core.Path.{refl}
-use Rattle.steps.proofs.HeaderLaws.{header-copied}
+use Rattle.layout.proofs.HeaderLaws.{header-copied}
 use borrow.Author.Needs.{needs}
-use Rattle.steps.proofs.committing.header_of.Statement.{statement}
-use Rattle.steps.proofs.committing.header_of.Tie as tie
+use Rattle.layout.proofs.headers.header_of.Statement.{statement}
+use Rattle.layout.proofs.headers.header_of.Tie as tie
 
 slice-aggregate-copy-into : tie.Need-slice-aggregate-copy-into
 slice-aggregate-copy-into c = search needs

@@ -1,0 +1,42 @@
+-- `gateway::teplovist_commit_signed` meets its contract. Assumes nothing.
+use Rattle.steps.specs.Calls as calls
+use Rattle.gateway.proofs.CallLaws.{called-by}
+use Rattle.signing.specs.declared.Signer.{Signer}
+use Rattle.steps.specs.declared.Session.{Session}
+use denote.Ref.{now}
+use borrow.Author.Needs.{needs}
+use Rattle.gateway.proofs.teplovist_commit_signed.Statement.{statement}
+use Rattle.gateway.proofs.teplovist_commit_signed.Tie as tie
+
+session-of-requires : tie.Need-session-of-requires
+session-of-requires c κs = search needs
+
+signer-of-requires : tie.Need-signer-of-requires
+signer-of-requires c κs = search needs
+
+commit-signed-requires : tie.Need-commit-signed-requires
+commit-signed-requires c κs = search needs
+
+session-left-requires : tie.Need-session-left-requires
+session-left-requires c κs = search needs
+
+outcome-answer-requires : tie.Need-outcome-answer-requires
+outcome-answer-requires c κs = search needs
+
+same-length : tie.Need-same-length
+same-length c = search needs
+
+returns : tie.Need-returns
+returns c = called-by (λ (s : Session) (signer : Signer). calls.commitSigned (now (c .before .before .before .before .before .before .before .before .before .before .before .before .args .image)) s (now (c .before .before .before .before .before .before .before .before .before .before .before .before .args .key)) signer) (c .before .before .before .before .before .before .session-of .ensures) (c .before .before .before .before .before .signer-of .ensures) (c .before .before .before .before .commit-signed .ensures) (c .before .session-left .ensures) (c .outcome-answer .ensures)
+
+pub teplovist-commit-signed-spec : {M : Type 1} → statement M
+teplovist-commit-signed-spec =
+    tie.close
+    (tie.spec
+    session-of-requires
+    signer-of-requires
+    commit-signed-requires
+    session-left-requires
+    outcome-answer-requires
+    same-length
+    returns)

@@ -1,0 +1,109 @@
+-- Commits and their units, from the calls' own definitions: which bytes a commit stores to, and that a signed one opens under its key and
+-- signer. Assumes nothing else.
+use mathlib.Core.Path.{_≡_, refl, sym, ap, _∙_, subst}
+use mathlib.Core.Bool.{Bool, true, false, cond}
+use mathlib.Core.List.{List}
+use mathlib.Core.Logic.{inl, inr}
+use Prim.Native.Nat.{ℕ, _+_, _≤_, _<_}
+use native.Mathlib.Omega.{arith}
+use lib.ListN.{length}
+use lib.Seq.{sets}
+use Rattle.number.specs.Frame.{Keeps}
+use Rattle.number.specs.Ranges.{part}
+use Rattle.number.specs.Bytes.{sameBytes}
+use Rattle.number.proofs.FrameLaws.{keeps-refl, keeps-trans, keeps-sets}
+use Rattle.number.proofs.ListLaws.{same-refl}
+use Rattle.layout.specs.declared.Container.{Container}
+use Rattle.layout.specs.declared.Opened.{Opened}
+use Rattle.layout.specs.declared.Opened.the-variants as opening
+use Rattle.layout.specs.Headers.{headerRange, headerBytes}
+use Rattle.layout.specs.Opening.{opened}
+use Rattle.layout.specs.Guarantees.{Guarantees}
+use Rattle.layout.proofs.GuaranteeLaws.{guarantees}
+use Rattle.dpfs.specs.Free.{InRange}
+use Rattle.signing.specs.declared.Signer.{Signer}
+use Rattle.layout.specs.declared.Kind.{Kind}
+use Rattle.layout.specs.declared.Refusal.the-variants.{SignerKind}
+use Rattle.signing.specs.Blocks.{signingBlock, kindOf}
+use Rattle.signing.specs.Calls.{Answer, Signs, Refused, sameKind, signedAs, signed}
+use Rattle.signatures.specs.Signatures.{signatureRange, signature, afterSigner, comesFirst, openedSigned}
+use Rattle.signatures.proofs.Laws.{length-signature, signed-of}
+use Rattle.commits.specs.Committing.{headerCommitted, committedImage, storedSigned, committedSigned}
+use Rattle.steps.specs.Calls.{After}
+use Rattle.history.specs.Model.{Form, Plain, Signed, Call, Commit, Ruling, Accepted}
+use Rattle.history.specs.Model as model
+use Rattle.history.specs.Run.{State, perform, ruled, next}
+use Rattle.history.specs.Theorem.{InUnit, SigningTheorem}
+use Rattle.history.proofs.CallCases.{landedImage, refused, committed-by, opens-first, signed-first}
+use Rattle.history.proofs.CallLaws.{Headed, CommitLaws, CallLaws}
+use Rattle.history.proofs.Following.{staged-table}
+use Rattle.history.proofs.Units.{new-size, signed-front}
+
+-- ---- the unit
+
+landed-unit : (form : Form) (image : List ℕ) (c : Container) → Guarantees image c → Keeps (InUnit form) image (landedImage form c image)
+unfolding committedImage committedSigned storedSigned
+landed-unit Plain image c g = let n = new-size image c g in keeps-sets (InRange headerRange) image 0x100 (headerCommitted c image) (λ i h. (omega arith, omega arith))
+landed-unit (Signed key signer) image c g =
+    let code = signature key signer (headerCommitted c image) in
+    let n = new-size image c g in
+    let m = length-signature key signer (headerCommitted c image) in
+    keeps-trans (λ i f. f)
+    (keeps-sets (InUnit (Signed key signer)) image 0 code (λ i h. inl (omega arith, omega arith)))
+    (keeps-sets (InUnit (Signed key signer)) (sets image 0 code) 0x100 (headerCommitted c image) (λ i h. inr (omega arith, omega arith)))
+
+pub unit : (form : Form) (st : State) → Keeps (InUnit form) (st .image) (next (Commit form) st .image)
+unfolding perform
+unit form st = by (ruled (Commit form) st) refl
+  where
+    by : (r : Ruling) → ruled (Commit form) st ≡ r → Keeps (InUnit form) (st .image) (next (Commit form) st .image)
+    by Accepted e =
+        let (c, o) = opens-first form st e in
+        subst (λ (a : After). Keeps (InUnit form) (st .image) (a .image)) (sym (committed-by form st c o e .after)) (landed-unit form (st .image) c (guarantees (st .image) c o))
+    by model.Refused e = subst (λ (s : State). Keeps (InUnit form) (st .image) (s .image)) (sym (refused (Commit form) st e)) (keeps-refl _ _)
+
+-- ---- after a signed commit
+
+-- a signer that has a block of one header has one of every header of the same kind
+signs-too : (kind : Kind) (signer : Signer) (header header' block : List ℕ) → signedAs kind signer header ≡ Signs block
+    → signedAs kind signer header' ≡ Signs (signingBlock signer header')
+signs-too kind signer header header' block e = by (sameKind kind (kindOf signer)) e
+  where
+    by : (t : Bool) → cond t (Signs (signingBlock signer header)) (Refused SignerKind) ≡ Signs block
+        → cond t (Signs (signingBlock signer header')) (Refused SignerKind) ≡ Signs (signingBlock signer header')
+    by true e = refl
+    by false e = let z : _≡_ {A = ℕ} 0 1 = cc in absurd (omega arith)
+
+opens-signed : (after key block : List ℕ) (signer : Signer) (c : Container) → opened after ≡ opening.Valid c → signed after signer ≡ Signs block
+    → part after signatureRange ≡ signature key signer (headerBytes after) → openedSigned after key signer ≡ opening.Valid c
+unfolding openedSigned
+opens-signed after key block signer c o s f = rw (openedSigned, o, s, f, same-refl (signature key signer (headerBytes after))) o
+
+module _ (W : CallLaws) (st : State) (key : List ℕ) (signer : Signer) (e : ruled (Commit (Signed key signer)) st ≡ Accepted) where
+  after-signed : (c : Container) → opened (st .image) ≡ opening.Valid c
+      → (d : Container) × (openedSigned (committedSigned c (st .image) key signer) key signer ≡ opening.Valid d)
+  after-signed c o =
+      let b = committed-by (Signed key signer) st c o e in
+      let after = committedSigned c (st .image) key signer in
+      let w = W .units (st .image) c o (Signed key signer) in
+      let s = W .commit (st .image) c o (staged-table c (st .image) (st .session) (b .current)) after w in
+      let g = guarantees (st .image) c o in
+      let first = signed-first key signer st c o e in
+      let own : signedAs (c .header .kind) signer (headerBytes (st .image)) ≡ Signs (first .0) = sym (signed-of (st .image) c g signer) ∙ first .1 in
+      let now : signed after signer ≡ Signs (signingBlock signer (headerBytes after)) =
+      signed-of after (s .container) (guarantees after (s .container) (s .opens)) signer
+      ∙ ap (λ (k : Kind). signedAs k signer (headerBytes after)) (s .kind)
+      ∙ signs-too (c .header .kind) signer (headerBytes (st .image)) (headerBytes after) (first .0) own in (
+        s .container,
+        opens-signed after key _ signer (s .container) (s .opens) now
+            (signed-front (st .image) c g key signer ∙ ap (signature key signer) (sym (w .header))),
+      )
+
+  opens-after : (c : Container) × (openedSigned (next (Commit (Signed key signer)) st .image) key signer ≡ opening.Valid c)
+  unfolding perform
+  opens-after =
+      let (c, o) = opens-first (Signed key signer) st e in
+      subst (λ (a : After). (d : Container) × (openedSigned (a .image) key signer ≡ opening.Valid d)) (sym (committed-by (Signed key signer) st c o e .after)) (after-signed c o)
+
+pub signing : CallLaws → SigningTheorem
+signing W = record { opens = opens-after W }
