@@ -7,15 +7,16 @@ use outside::generate::samples::samples;
 use outside::generate::shape::Wanted;
 use outside::generate::{valid_image, Sample};
 use outside::program::program_output;
-use outside::rules::calls::{abandon, begin, commit, read_committed, read_staged, verified, write};
+use outside::rules::calls::{abandon, begin, commit, commit_signed, read_committed, read_staged, verified, write};
 use outside::rules::descriptor::{Descriptor, Level, DPFS_SIZE, ENTRY, IVFC_SIZE, MASTER_SIZE};
 use outside::rules::dpfs::View;
 use outside::rules::extent::Extent;
 use outside::rules::header::{Header, Kind, PartitionPlace, HEADER};
-use outside::rules::opening::{open, Opened, Partition};
+use outside::rules::opening::{open, open_signed, Opened, Partition};
 use outside::rules::refusal::Refusal;
 use outside::rules::session::Session;
 use outside::rules::sha256::sha256;
+use outside::rules::signing::{signature, Signer};
 
 /// Size and logarithm of each level; everything is packed without gaps.
 struct Sizes {
@@ -244,4 +245,62 @@ fn a_session() {
     read_committed(&image, 0, 58, &mut buffer).expect("verified");
     assert_eq!(buffer[..], expected);
     assert_eq!(write(&mut image, &stale, 0, 0, &[]), Err(Refusal::Outdated));
+}
+
+/// The order of signed opening's refusals, by damage that is added step by step.
+#[test]
+fn the_order_of_signed_opening() {
+    let mut image = diff_with_data(300, 6, 5).image;
+    let key = [7; 16];
+    let signer = Signer::Quota { extdata: 5 };
+    let sign = |image: &mut [u8]| {
+        let signature = signature(image, &key, signer).expect("a DIFF");
+        image[..16].copy_from_slice(&signature);
+    };
+    sign(&mut image);
+    assert_eq!(number(open_signed(&image, &key, signer)), 0);
+    image[HEADER + 0x34] ^= 1;
+    assert_eq!(number(open_signed(&image, &key, signer)), 16);
+    sign(&mut image);
+    assert_eq!(number(open_signed(&image, &key, signer)), 5);
+    image[HEADER + 0x2F] ^= 1;
+    assert_eq!(number(open_signed(&image, &key, signer)), 16);
+    assert_eq!(number(open_signed(&image, &key, Signer::Gamecard)), 15);
+    sign(&mut image);
+    assert_eq!(number(open_signed(&image, &key, signer)), 4);
+    image[HEADER + 0x30] = 2;
+    assert_eq!(number(open_signed(&image, &key, Signer::Gamecard)), 3);
+    image[HEADER] = b'd';
+    assert_eq!(number(open_signed(&image, &key, Signer::Gamecard)), 2);
+    assert_eq!(number(open_signed(&image[..0x1FF], &key, Signer::Gamecard)), 1);
+}
+
+/// The signature lands with the header, in one unit: with only one of the two the image is no longer signed.
+#[test]
+fn a_signed_session() {
+    let Sample { mut image, versions, .. } = diff_with_data(300, 6, 5);
+    let key = [0xA5; 16];
+    let signer = Signer::Database { database: 3 };
+    let mut session = Session::Idle;
+    assert_eq!(commit_signed(&mut image, &mut session, &key, Signer::Gamecard), Err(Refusal::WrongSession));
+    begin(&mut image, &mut session).expect("idle");
+    write(&mut image, &session, 0, 0, &[0xAA; 10]).expect("verified");
+    let before = image.clone();
+    assert_eq!(commit_signed(&mut image, &mut session, &key, Signer::Gamecard), Err(Refusal::WrongSigner));
+    assert_eq!(image, before);
+    commit_signed(&mut image, &mut session, &key, signer).expect("begun");
+    assert_eq!(session, Session::Idle);
+    assert_eq!(number(open_signed(&image, &key, signer)), 0);
+    assert_eq!(image[0x10..0x100], before[0x10..0x100]);
+    assert_eq!(image[0x200..], before[0x200..]);
+    let mut buffer = [0; 20];
+    read_committed(&image, 0, 0, &mut buffer).expect("verified");
+    assert_eq!(buffer[..10], [0xAA; 10]);
+    assert_eq!(buffer[10..], versions[0].bytes[10..20]);
+
+    let with_parts = |signature: &[u8], header: &[u8]| [&signature[..0x100], &header[0x100..]].concat();
+    for torn in [with_parts(&image, &before), with_parts(&before, &image)] {
+        assert_eq!(number(open(&torn)), 0);
+        assert_eq!(open_signed(&torn, &key, signer), Err(Refusal::WrongSignature));
+    }
 }

@@ -3,13 +3,15 @@
 
 use std::ops::Range;
 
+use super::aes::Key;
 use super::dpfs::View;
 use super::extent::Extent;
-use super::header::HEADER;
+use super::header::{FRONT, HEADER};
 use super::opening::{open, Opened, Partition};
 use super::refusal::Refusal;
 use super::session::{header_bytes, Session};
 use super::sha256::sha256;
+use super::signing::{signature, Signer};
 use super::staging;
 
 /// Reads the committed view's level 4; fills the whole buffer.
@@ -89,16 +91,36 @@ pub fn write(image: &mut [u8], session: &Session, partition: u64, place: u64, da
     Ok(())
 }
 
-/// Makes the staged table the active one: only the flag and the table's hash change.
+/// Makes the staged table the active one.
 pub fn commit(image: &mut [u8], session: &mut Session) -> Result<(), Refusal> {
     let opened = open(image)?;
     check_begun(image, &opened, session)?;
-    let kind = opened.header.kind;
-    let digest = sha256(opened.header.inactive_table().of(image));
-    image[HEADER + kind.flag_place().0] ^= 1;
-    image[HEADER + kind.hash_place()..][..32].copy_from_slice(&digest);
+    let front = committed_front(image, &opened);
+    image[HEADER..front.len()].copy_from_slice(&front[HEADER..]);
     *session = Session::Idle;
     Ok(())
+}
+
+/// Commits, and stores the signature of the new header with it. The old signature is not looked at.
+pub fn commit_signed(image: &mut [u8], session: &mut Session, key: &Key, signer: Signer) -> Result<(), Refusal> {
+    let opened = open(image)?;
+    check_begun(image, &opened, session)?;
+    let front = committed_front(image, &opened);
+    let signature = signature(&front, key, signer)?;
+    image[..signature.len()].copy_from_slice(&signature);
+    image[HEADER..front.len()].copy_from_slice(&front[HEADER..]);
+    *session = Session::Idle;
+    Ok(())
+}
+
+/// The first 0x200 bytes with a commit's header: only the flag and the table's hash change.
+fn committed_front(image: &[u8], opened: &Opened) -> Vec<u8> {
+    let kind = opened.header.kind;
+    let digest = sha256(opened.header.inactive_table().of(image));
+    let mut front = image[..FRONT as usize].to_vec();
+    front[HEADER + kind.flag_place().0] ^= 1;
+    front[HEADER + kind.hash_place()..][..32].copy_from_slice(&digest);
+    front
 }
 
 /// Ends the session; does not look at the image.

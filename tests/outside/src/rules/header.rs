@@ -98,7 +98,7 @@ pub fn read_kind(image: &[u8]) -> Result<Kind, Refusal> {
     }
 }
 
-/// Reads and judges the header: refusals 1 to 4.
+/// Reads the header's fields and judges count and flag: refusals 1 to 3.
 pub fn read_header(image: &[u8]) -> Result<Header, Refusal> {
     let kind = read_kind(image)?;
     let bytes = &image[HEADER..HEADER + HEADER_LENGTH];
@@ -111,15 +111,10 @@ pub fn read_header(image: &[u8]) -> Result<Header, Refusal> {
     if !(1..=2).contains(&count) || flag > 1 {
         return Err(Refusal::CountOrFlag);
     }
-    let header = match kind {
+    Ok(match kind {
         Kind::Disa => disa_fields(bytes, count, flag),
         Kind::Diff => diff_fields(bytes, flag),
-    };
-    if header_places_hold(&header, image.len() as u128) {
-        Ok(header)
-    } else {
-        Err(Refusal::HeaderPlaces)
-    }
+    })
 }
 
 fn disa_fields(bytes: &[u8], count: u64, flag: u64) -> Header {
@@ -148,7 +143,7 @@ fn diff_fields(bytes: &[u8], flag: u64) -> Header {
 }
 
 /// The rules behind refusal 4.
-fn header_places_hold(header: &Header, image_length: u128) -> bool {
+pub fn header_places_hold(header: &Header, image_length: u128) -> bool {
     let table_size = header.primary.size;
     let areas: Vec<Extent> = header.partitions.iter().map(|place| place.area).collect();
     let descriptors: Vec<Extent> = header.partitions.iter().map(|place| place.descriptor).collect();

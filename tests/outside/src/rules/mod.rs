@@ -1,6 +1,8 @@
 //! The container's rules, in the order of the paper.
 
+pub mod aes;
 pub mod calls;
+pub mod cmac;
 pub mod compression;
 pub mod descriptor;
 pub mod dpfs;

@@ -32,6 +32,8 @@ pub enum Refusal {
     Outdated,
     /// 15: the signer's type does not fit the container's kind.
     WrongSigner,
+    /// 16: the first 16 bytes are not the signature.
+    WrongSignature,
     /// 22: a running digest's message is or would become too long.
     MessageTooLong,
 }
@@ -54,6 +56,7 @@ impl Refusal {
             Refusal::WrongSession => 13,
             Refusal::Outdated => 14,
             Refusal::WrongSigner => 15,
+            Refusal::WrongSignature => 16,
             Refusal::MessageTooLong => 22,
         }
     }

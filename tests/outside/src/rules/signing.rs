@@ -1,5 +1,7 @@
-//! The block whose SHA-256 is signed: the five types in the section "AES CMAC" of document 000.
+//! The block whose SHA-256 is signed, the five types in the section "AES CMAC" of document 000, and the signature itself.
 
+use super::aes::Key;
+use super::cmac::cmac;
 use super::compression::Digest;
 use super::header::{read_kind, Kind};
 use super::refusal::Refusal;
@@ -10,6 +12,12 @@ use super::sha256::sha256;
 pub const LONGEST_BLOCK: usize = 0x11C;
 pub type BlockBytes = [u8; LONGEST_BLOCK];
 
+/// The signature stands in the image's first bytes.
+pub const SIGNATURE_LENGTH: usize = 16;
+pub type Signature = [u8; SIGNATURE_LENGTH];
+
+/// How many types of signers there are; Quota.dat is one of its own.
+pub const SIGNER_TYPES: u64 = 6;
 /// A signer at the library's boundary: its type modulo six, the ID, and a file's two IDs.
 pub type SignerNumbers = [u64; 4];
 
@@ -33,7 +41,7 @@ pub enum Signer {
 impl Signer {
     /// Of an ID of 32 bits the low half counts; numbers that a type has no use for may be anything.
     pub fn from_numbers([kind, id, name, directory]: SignerNumbers) -> Signer {
-        match kind % 6 {
+        match kind % SIGNER_TYPES {
             0 => Signer::Gamecard,
             1 => Signer::Sd { title: id },
             2 => Signer::System { save: id as u32 },
@@ -71,6 +79,11 @@ pub fn signing_block(image: &[u8], signer: Signer) -> Result<Vec<u8>, Refusal> {
 /// The block's SHA-256, with the same refusals.
 pub fn signing_digest(image: &[u8], signer: Signer) -> Result<Digest, Refusal> {
     signing_block(image, signer).map(|block| sha256(&block))
+}
+
+/// The CMAC of that SHA-256, with the same refusals.
+pub fn signature(image: &[u8], key: &Key, signer: Signer) -> Result<Signature, Refusal> {
+    signing_digest(image, signer).map(|digest| cmac(key, &digest))
 }
 
 /// The SHA-256 of the inner block of 0x108 bytes that savegames have.
@@ -179,6 +192,25 @@ mod tests {
         for kind in 3..6 {
             let expected = sha256(&block(DIFF_OPENING, kind));
             assert_eq!(signing_digest(&image(DIFF_OPENING), signer(kind)), Ok(expected));
+        }
+    }
+
+    /// As Python's hashlib and `openssl mac` give them for the blocks above.
+    #[test]
+    fn signatures() {
+        let key = std::array::from_fn(|place| place as u8);
+        let signatures: [u128; 6] = [
+            0x9d7d04d77f416fef6487854886d5ed58,
+            0x5f58691d21a5d9346ca69705bfd71fc1,
+            0x4851688022596b15338ebd7071cc2b69,
+            0xc695ab84b5ab24eba691a54546aae07b,
+            0x3a5776635de8f710d3e75dd0f27fbe06,
+            0x8f5af56898fa033404dc0f5b9d5b76a1,
+        ];
+        for (kind, expected) in signatures.into_iter().enumerate() {
+            let opening = if kind < 3 { DISA_OPENING } else { DIFF_OPENING };
+            let found = signature(&image(opening), &key, signer(kind as u64));
+            assert_eq!(found, Ok(expected.to_be_bytes()), "type {kind}");
         }
     }
 
