@@ -2,6 +2,7 @@
 //! as a pointer.
 
 use crate::description::Description;
+use crate::rules::aes::Key;
 use crate::rules::compression::Digest;
 use crate::rules::running::RunningBytes;
 use crate::rules::session::SessionBytes;
@@ -41,6 +42,20 @@ extern "C" {
     ) -> u64;
     fn teplovist_commit(image: *mut u8, image_len: usize, session: *mut u8) -> u64;
     fn teplovist_abandon(session: *mut u8) -> u64;
+    fn teplovist_open_signed(
+        image: *const u8,
+        image_len: usize,
+        key: *const u8,
+        signer: *const u64,
+        description: *mut u64,
+    ) -> u64;
+    fn teplovist_commit_signed(
+        image: *mut u8,
+        image_len: usize,
+        session: *mut u8,
+        key: *const u8,
+        signer: *const u64,
+    ) -> u64;
     fn teplovist_signing_block(image: *const u8, image_len: usize, signer: *const u64, block: *mut u8) -> u64;
     fn teplovist_signing_digest(image: *const u8, image_len: usize, signer: *const u64, digest: *mut u8) -> u64;
     fn teplovist_digest_start(state: *mut u8);
@@ -109,6 +124,24 @@ impl Subject for Library {
 
     fn abandon(&self, session: &mut SessionBytes) -> u64 {
         unsafe { teplovist_abandon(session.as_mut_ptr()) }
+    }
+
+    fn open_signed(&self, image: &[u8], key: &Key, signer: &SignerNumbers, description: &mut Description) -> u64 {
+        unsafe {
+            teplovist_open_signed(image.as_ptr(), image.len(), key.as_ptr(), signer.as_ptr(), description.as_mut_ptr())
+        }
+    }
+
+    fn commit_signed(&self, image: &mut [u8], session: &mut SessionBytes, key: &Key, signer: &SignerNumbers) -> u64 {
+        unsafe {
+            teplovist_commit_signed(
+                image.as_mut_ptr(),
+                image.len(),
+                session.as_mut_ptr(),
+                key.as_ptr(),
+                signer.as_ptr(),
+            )
+        }
     }
 
     fn signing_block(&self, image: &[u8], signer: &SignerNumbers, block: &mut BlockBytes) -> u64 {

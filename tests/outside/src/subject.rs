@@ -1,7 +1,8 @@
 //! Whatever claims to follow the rules, in the form of the library's boundary: an answer is one number (the refusal's
-//! number in the low eight bits, the value above), a session is 257 bytes, a running digest 104.
+//! number in the low eight bits, the value above), a session is 257 bytes, a key 16, a running digest 104.
 
 use crate::description::{describe, Description};
+use crate::rules::aes::Key;
 use crate::rules::calls;
 use crate::rules::compression::Digest;
 use crate::rules::opening;
@@ -20,6 +21,8 @@ pub trait Subject {
     fn write(&self, image: &mut [u8], session: &mut SessionBytes, partition: u64, place: u64, data: &[u8]) -> u64;
     fn commit(&self, image: &mut [u8], session: &mut SessionBytes) -> u64;
     fn abandon(&self, session: &mut SessionBytes) -> u64;
+    fn open_signed(&self, image: &[u8], key: &Key, signer: &SignerNumbers, description: &mut Description) -> u64;
+    fn commit_signed(&self, image: &mut [u8], session: &mut SessionBytes, key: &Key, signer: &SignerNumbers) -> u64;
     fn signing_block(&self, image: &[u8], signer: &SignerNumbers, block: &mut BlockBytes) -> u64;
     fn signing_digest(&self, image: &[u8], signer: &SignerNumbers, digest: &mut Digest) -> u64;
     fn digest_start(&self, state: &mut RunningBytes);
@@ -77,6 +80,21 @@ impl Subject for Rules {
     fn abandon(&self, session: &mut SessionBytes) -> u64 {
         let mut value = Session::from_bytes(session);
         answer_code(calls::abandon(&mut value).map(|()| {
+            *session = value.to_bytes();
+            0
+        }))
+    }
+
+    fn open_signed(&self, image: &[u8], key: &Key, signer: &SignerNumbers, description: &mut Description) -> u64 {
+        answer_code(opening::open_signed(image, key, Signer::from_numbers(*signer)).map(|opened| {
+            *description = describe(&opened);
+            0
+        }))
+    }
+
+    fn commit_signed(&self, image: &mut [u8], session: &mut SessionBytes, key: &Key, signer: &SignerNumbers) -> u64 {
+        let mut value = Session::from_bytes(session);
+        answer_code(calls::commit_signed(image, &mut value, key, Signer::from_numbers(*signer)).map(|()| {
             *session = value.to_bytes();
             0
         }))

@@ -1,7 +1,9 @@
 //! Random cases against the reference model, and proof that the comparison notices what it should: subjects that break
 //! a rule are found out.
 
-use outside::description::Description;
+use outside::description::{Description, DESCRIPTION_LENGTH};
+use outside::rules::aes::Key;
+use outside::rules::cmac::cmac;
 use outside::rules::compression::{compress, Digest};
 use outside::rules::descriptor::IVFC_LEVELS;
 use outside::rules::dpfs::View;
@@ -10,7 +12,7 @@ use outside::rules::opening::open;
 use outside::rules::running::{Running, RunningBytes, LONGEST_MESSAGE, TOTAL, WAITING};
 use outside::rules::session::SessionBytes;
 use outside::rules::sha256::sha256;
-use outside::rules::signing::{BlockBytes, SignerNumbers, LONGEST_BLOCK};
+use outside::rules::signing::{signature, signing_block, BlockBytes, Signer, SignerNumbers, LONGEST_BLOCK};
 use outside::subject::{Rules, Subject};
 use outside::trial::tally::{Tally, NUMBERS};
 use outside::trial::{run_case, run_fixed_cases};
@@ -32,6 +34,8 @@ fn the_model_agrees_and_every_answer_occurs() {
         ("begin", vec![13]),
         ("write", vec![8, 9, 10, 11, 12, 13, 14]),
         ("commit", vec![13, 14]),
+        ("open signed", vec![15, 16]),
+        ("commit signed", vec![13, 14, 15]),
     ];
     let signing = [("signing block", vec![0, 1, 2, 15]), ("signing digest", vec![0, 1, 2, 15])];
     let digests = [("digest start", vec![0]), ("digest feed", vec![0, 22]), ("digest finish", vec![0, 22])];
@@ -52,9 +56,19 @@ fn the_model_agrees_and_every_answer_occurs() {
     assert!(tally.rows > 0, "no call met eight blocks in a row");
 }
 
-/// Ways to go wrong.
-#[derive(Clone, Copy, Debug, PartialEq)]
-enum Fault {
+/// Names the ways to go wrong, and lists them all.
+macro_rules! faults {
+    ($($name:ident,)*) => {
+        #[derive(Clone, Copy, Debug, PartialEq)]
+        enum Fault {
+            $($name,)*
+        }
+
+        const FAULTS: &[Fault] = &[$(Fault::$name,)*];
+    };
+}
+
+faults! {
     RefusesEverything,
     ReadsZeros,
     FillsBufferOnRefusal,
@@ -80,6 +94,19 @@ enum Fault {
     KeepsTailOfBlock,
     FillsBlockOnRefusal,
     DigestsWholeArray,
+    AcceptsAnySignature,
+    ComparesFifteenBytes,
+    ChecksSignatureLate,
+    ChecksSignatureEarly,
+    ComparesBeforeSigner,
+    SignsTheBlock,
+    ReadsAllOfTheFront,
+    CommitChecksSignature,
+    CommitSignsOldHeader,
+    CommitForgetsSignature,
+    CommitClearsFront,
+    CommitChecksSignerFirst,
+    CommitSignedKeepsSession,
     StartsWithLeftovers,
     LimitOneLower,
     LimitOneHigher,
@@ -90,43 +117,6 @@ enum Fault {
     LooksBehindWaiting,
     ForgetsWaiting,
 }
-
-const FAULTS: [Fault; 34] = [
-    Fault::RefusesEverything,
-    Fault::ReadsZeros,
-    Fault::FillsBufferOnRefusal,
-    Fault::InventsCount,
-    Fault::SaysYes,
-    Fault::ForgetsFlag,
-    Fault::RefusesLeftovers,
-    Fault::BeginWritesMore,
-    Fault::WriteDoesNothing,
-    Fault::WritesLiveCopy,
-    Fault::CopiesAgain,
-    Fault::WritesFirstMasterEntry,
-    Fault::CommitKeepsHeader,
-    Fault::CommitKeepsSession,
-    Fault::AbandonKeepsRemains,
-    Fault::CarriesNoBlock,
-    Fault::SignsAnyKind,
-    Fault::SignsOpenedImagesOnly,
-    Fault::SignsLongImages,
-    Fault::KeepsSaveIdHigh,
-    Fault::KeepsQuotaIds,
-    Fault::ExchangesFileIds,
-    Fault::KeepsTailOfBlock,
-    Fault::FillsBlockOnRefusal,
-    Fault::DigestsWholeArray,
-    Fault::StartsWithLeftovers,
-    Fault::LimitOneLower,
-    Fault::LimitOneHigher,
-    Fault::TotalWraps,
-    Fault::AcceptsEmptyPieces,
-    Fault::FinishesPastLimit,
-    Fault::RefusedFeedCounts,
-    Fault::LooksBehindWaiting,
-    Fault::ForgetsWaiting,
-];
 
 /// The model with one fault.
 struct Faulty(Fault);
@@ -225,6 +215,71 @@ impl Subject for Faulty {
             return 0;
         }
         Rules.abandon(session)
+    }
+
+    fn open_signed(&self, image: &[u8], key: &Key, signer: &SignerNumbers, description: &mut Description) -> u64 {
+        let untouched = *description;
+        let answer = Rules.open_signed(image, key, signer, description);
+        match (self.0, answer) {
+            (Fault::AcceptsAnySignature, 16) => Rules.open(image, description),
+            (Fault::ComparesFifteenBytes, 16) => {
+                let last = signature(image, key, Signer::from_numbers(*signer)).expect("a signer that fits")[15];
+                let mut image = image.to_vec();
+                image[15] = last;
+                Rules.open_signed(&image, key, signer, description)
+            }
+            // 4 to 7 before 15 and 16.
+            (Fault::ChecksSignatureLate, 15 | 16) => match Rules.open(image, &mut untouched.clone()) {
+                0 => answer,
+                number => number,
+            },
+            // 15 and 16 before 3.
+            (Fault::ChecksSignatureEarly, 3) => match signature(image, key, Signer::from_numbers(*signer)) {
+                Ok(signature) if image[..16] != signature => 16,
+                Ok(_) => 3,
+                Err(refusal) => refusal.number(),
+            },
+            (Fault::ComparesBeforeSigner, 15) => 16,
+            (Fault::SignsTheBlock, 0) => {
+                *description = untouched;
+                16
+            }
+            (Fault::ReadsAllOfTheFront, 0) if image[0x10..0x100] != [0; 0xF0] => {
+                *description = untouched;
+                16
+            }
+            _ => answer,
+        }
+    }
+
+    fn commit_signed(&self, image: &mut [u8], session: &mut SessionBytes, key: &Key, signer: &SignerNumbers) -> u64 {
+        let before = image.to_vec();
+        let session_before = *session;
+        let signed_before = Rules.open_signed(image, key, signer, &mut [0; DESCRIPTION_LENGTH]);
+        match (self.0, signed_before) {
+            (Fault::CommitChecksSignature, 16) => return 16,
+            (Fault::CommitChecksSignerFirst, 15) if open(image).is_ok() => return 15,
+            _ => {}
+        }
+        let answer = Rules.commit_signed(image, session, key, signer);
+        if answer != 0 {
+            return answer;
+        }
+        match self.0 {
+            Fault::SignsTheBlock => {
+                let block = signing_block(image, Signer::from_numbers(*signer)).expect("a signer that fits");
+                image[..16].copy_from_slice(&cmac(key, &block));
+            }
+            Fault::CommitSignsOldHeader => {
+                let old = signature(&before, key, Signer::from_numbers(*signer)).expect("a signer that fits");
+                image[..16].copy_from_slice(&old);
+            }
+            Fault::CommitForgetsSignature => image[..16].copy_from_slice(&before[..16]),
+            Fault::CommitClearsFront => image[0x10..0x100].fill(0),
+            Fault::CommitSignedKeepsSession => *session = session_before,
+            _ => {}
+        }
+        answer
     }
 
     fn signing_block(&self, image: &[u8], signer: &SignerNumbers, block: &mut BlockBytes) -> u64 {
@@ -370,7 +425,7 @@ fn copy_live_over_other(image: &mut [u8]) {
 
 #[test]
 fn every_fault_is_found() {
-    for fault in FAULTS {
+    for &fault in FAULTS {
         let subject = Faulty(fault);
         let found = (1..=300).any(|seed| run_case(seed, Some(&subject), &mut Tally::default()).is_err());
         let found = found || run_fixed_cases(Some(&subject), &mut Tally::default()).is_err();

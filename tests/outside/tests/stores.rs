@@ -3,6 +3,7 @@
 use outside::rules::header::{HEADER, HEADER_LENGTH};
 use outside::rules::opening::open;
 use outside::rules::protected::free_bytes;
+use outside::rules::signing::SIGNATURE_LENGTH;
 use outside::stores::judge::judge;
 use outside::stores::prepare::{from_bytes, prepare, to_bytes, Prepared};
 use outside::stores::{image_address, BEGINS, ENDS};
@@ -12,14 +13,18 @@ use outside::trial::call::Call;
 /// What a trace has of one call: the places in its image that are stored to, in their order.
 type Stores = Vec<(char, u64, u64)>;
 
-/// The stores of a library that stores each byte that changes, and a commit's header whole.
+/// The stores of a library that stores each byte that changes, and a commit's header and signature whole.
 fn stores_of(prepared: &Prepared) -> Stores {
     let mut after = prepared.image.clone();
     let outcome = prepared.call.perform(&Rules, &mut after, &mut prepared.session.clone());
-    let whole_header = matches!(prepared.call, Call::Commit) && outcome.accepted();
     let header = HEADER..HEADER + HEADER_LENGTH;
+    let stored_whole = |place: &usize| match prepared.call {
+        Call::Commit => header.contains(place),
+        Call::CommitSigned { .. } => header.contains(place) || *place < SIGNATURE_LENGTH,
+        _ => false,
+    };
     (0..after.len())
-        .filter(|place| after[*place] != prepared.image[*place] || (whole_header && header.contains(place)))
+        .filter(|place| after[*place] != prepared.image[*place] || (outcome.accepted() && stored_whole(place)))
         .map(|place| ('S', place as u64, 1))
         .collect()
 }
@@ -103,11 +108,28 @@ fn a_long_store_counts_for_each_of_its_bytes() {
 fn a_commit_stores_its_header_once_and_nothing_else() {
     let is_commit = |call: &Call| matches!(call, Call::Commit);
     let twice = complaint_with(is_commit, |_, stores| stores.push(('S', HEADER as u64, 8)));
-    assert!(twice.contains("byte 0x100 of the header was stored 2 times"), "{twice}");
+    assert!(twice.contains("byte 0x100 of what a commit stores was stored 2 times"), "{twice}");
     let beside = complaint_with(is_commit, |_, stores| stores.push(('S', 0x200, 1)));
     assert!(beside.contains("a store to byte 0x200, which is protected from it"), "{beside}");
     let part = complaint_with(is_commit, |_, stores| stores.truncate(stores.len() - 1));
-    assert!(part.contains("byte 0x1ff of the header was stored 0 times"), "{part}");
+    assert!(part.contains("byte 0x1ff of what a commit stores was stored 0 times"), "{part}");
+    let in_front = complaint_with(is_commit, |_, stores| stores.push(('S', 0xF, 1)));
+    assert!(in_front.contains("a store to byte 0xf, which is protected from it"), "{in_front}");
+}
+
+#[test]
+fn a_signed_commit_stores_its_signature_too() {
+    let is_signed_commit = |call: &Call| matches!(call, Call::CommitSigned { .. });
+    for place in [0, 0xF, 0x100, 0x1FF] {
+        let twice = complaint_with(is_signed_commit, |_, stores| stores.push(('S', place, 1)));
+        assert!(twice.contains(&format!("byte {place:#x} of what a commit stores was stored 2 times")), "{twice}");
+        let never = complaint_with(is_signed_commit, |_, stores| stores.retain(|store| store.1 != place));
+        assert!(never.contains(&format!("byte {place:#x} of what a commit stores was stored 0 times")), "{never}");
+    }
+    for place in [0x10, 0xFF, 0x200] {
+        let beside = complaint_with(is_signed_commit, |_, stores| stores.push(('S', place, 1)));
+        assert!(beside.contains(&format!("a store to byte {place:#x}, which is protected from it")), "{beside}");
+    }
 }
 
 #[test]

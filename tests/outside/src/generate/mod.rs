@@ -5,6 +5,7 @@ pub mod damage;
 pub mod random;
 pub mod samples;
 pub mod shape;
+pub mod signing;
 
 use crate::model::Version;
 use crate::rules::opening::Opened;

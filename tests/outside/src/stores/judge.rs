@@ -6,6 +6,7 @@ use super::{image_address, BEGINS, ENDS, REGION_END};
 use crate::rules::header::{HEADER, HEADER_LENGTH};
 use crate::rules::opening::open;
 use crate::rules::protected::free_bytes;
+use crate::rules::signing::SIGNATURE_LENGTH;
 use crate::subject::Rules;
 use crate::trial::call::Call;
 use crate::trial::properties::require;
@@ -53,7 +54,7 @@ pub fn judge(calls: &[Prepared], trace: &mut dyn BufRead) -> Result<Tally, Strin
     if number < calls.len() {
         return Err(format!("the trace ends after {number} of {} calls", calls.len()));
     }
-    for kind in ["begin", "write", "commit"] {
+    for kind in ["begin", "write", "commit", "signed commit"] {
         let seen = tally.get(kind).copied().unwrap_or_default();
         if seen.stored == 0 {
             return Err(format!("no store of a {kind} was seen"));
@@ -97,12 +98,23 @@ fn kind_of(call: &Call) -> &'static str {
         Call::Begin => "begin",
         Call::Write { .. } => "write",
         Call::Commit => "commit",
+        Call::CommitSigned { .. } => "signed commit",
         _ => "another call",
     }
 }
 
-/// Begin and write may store to free bytes; an accepted commit stores each byte of the header once; no other call stores. A byte that changes was
-/// stored to, or else the trace has not seen all.
+/// Does an accepted call of this kind store to this place, just once? A commit does to the header, a signed one to the signature too.
+fn stores_once(kind: &str, place: usize) -> bool {
+    let in_header = (HEADER..HEADER + HEADER_LENGTH).contains(&place);
+    match kind {
+        "commit" => in_header,
+        "signed commit" => in_header || place < SIGNATURE_LENGTH,
+        _ => false,
+    }
+}
+
+/// Begin and write may store to free bytes; an accepted commit stores each byte of the header once, a signed one each of the signature too; no other
+/// call stores. A byte that changes was stored to, or else the trace has not seen all.
 fn judge_call(prepared: &Prepared, stores: &[u32], tally: &mut Tally) -> Result<(), String> {
     let mut after = prepared.image.clone();
     let accepted = prepared.call.perform(&Rules, &mut after, &mut prepared.session.clone()).accepted();
@@ -111,10 +123,9 @@ fn judge_call(prepared: &Prepared, stores: &[u32], tally: &mut Tally) -> Result<
         "begin" | "write" => open(&prepared.image).ok().map(|opened| free_bytes(&prepared.image, &opened)),
         _ => None,
     };
-    let header = HEADER..HEADER + HEADER_LENGTH;
     for (place, &count) in stores.iter().enumerate() {
-        if kind == "commit" && accepted && header.contains(&place) {
-            require(count == 1, || format!("byte {place:#x} of the header was stored {count} times"))?;
+        if accepted && stores_once(kind, place) {
+            require(count == 1, || format!("byte {place:#x} of what a commit stores was stored {count} times"))?;
         } else if count > 0 {
             let free = allowed.as_ref().is_some_and(|free| free[place]);
             require(free, || format!("a store to byte {place:#x}, which is protected from it"))?;

@@ -4,6 +4,7 @@ use super::ROOM;
 use crate::generate::damage::{any_damage, damaged_image};
 use crate::generate::random::Random;
 use crate::generate::shape::Wanted;
+use crate::generate::signing::SigningKey;
 use crate::generate::valid_image;
 use crate::rules::opening::open;
 use crate::rules::session::{Session, SessionBytes, SESSION_LENGTH};
@@ -54,10 +55,12 @@ fn is_short(image: &[u8]) -> bool {
 
 fn prepare_list(random: &mut Random, mut image: Vec<u8>, prepared: &mut Vec<Prepared>) {
     let opened = open(&image).ok();
+    let signing_key = SigningKey::choose(random, &image);
+    signing_key.sign(&mut image);
     let mut session = [0; SESSION_LENGTH];
     for _ in 0..CALLS_OF_AN_IMAGE {
         let kind = choose_kind(random, session[0] != 0);
-        let call = Call::of_kind(random, opened.as_ref(), kind);
+        let call = Call::of_kind(random, opened.as_ref(), &signing_key, kind);
         let mut handed = if random.chance(10) { forged(random, &image) } else { session };
         prepared.push(Prepared { image: image.clone(), session: handed, call: call.clone() });
         if call.perform(&Rules, &mut image, &mut handed).accepted() {
@@ -71,9 +74,11 @@ fn choose_kind(random: &mut Random, begun: bool) -> usize {
     const BEGIN: usize = 5;
     const WRITE: usize = 6;
     const COMMIT: usize = 7;
+    const COMMIT_SIGNED: usize = 12;
     match random.below(10) {
         0 => random.below(CALL_KINDS as u64) as usize,
-        1..=2 if begun => COMMIT,
+        1 if begun => COMMIT,
+        2 if begun => COMMIT_SIGNED,
         _ if begun => WRITE,
         _ => BEGIN,
     }
@@ -107,6 +112,8 @@ pub fn to_bytes(prepared: &[Prepared]) -> Vec<u8> {
             Call::Abandon => (8, [0, 0], &[]),
             Call::SigningBlock { signer } => (9, [0, 0], &signer_bytes(signer)),
             Call::SigningDigest { signer } => (10, [0, 0], &signer_bytes(signer)),
+            Call::OpenSigned { signing_key } => (11, [0, 0], &signing_key_bytes(signing_key)),
+            Call::CommitSigned { signing_key } => (12, [0, 0], &signing_key_bytes(signing_key)),
         };
         for number in [kind, numbers[0], numbers[1]] {
             bytes.extend_from_slice(&number.to_le_bytes());
@@ -142,7 +149,9 @@ pub fn from_bytes(mut bytes: &[u8]) -> Vec<Prepared> {
             7 => Call::Commit,
             8 => Call::Abandon,
             9 => Call::SigningBlock { signer: signer_of(data) },
-            _ => Call::SigningDigest { signer: signer_of(data) },
+            10 => Call::SigningDigest { signer: signer_of(data) },
+            11 => Call::OpenSigned { signing_key: signing_key_of(data) },
+            _ => Call::CommitSigned { signing_key: signing_key_of(data) },
         };
         prepared.push(Prepared { image, session, call });
     }
@@ -156,6 +165,16 @@ fn signer_bytes(signer: &SignerNumbers) -> Vec<u8> {
 
 fn signer_of(mut bytes: &[u8]) -> SignerNumbers {
     [0; 4].map(|_: u64| take_number(&mut bytes))
+}
+
+/// A key and its signer, likewise.
+fn signing_key_bytes(signing_key: &SigningKey) -> Vec<u8> {
+    [&signing_key.key[..], &signer_bytes(&signing_key.signer)].concat()
+}
+
+fn signing_key_of(mut bytes: &[u8]) -> SigningKey {
+    let key = take(&mut bytes, 16).try_into().expect("16 bytes");
+    SigningKey { key, signer: signer_of(bytes) }
 }
 
 fn take<'a>(bytes: &mut &'a [u8], length: usize) -> &'a [u8] {

@@ -1,8 +1,8 @@
 //! One call with its arguments, how it is chosen, and what it gives.
 
-use super::signing::choose_signer;
 use crate::description::{Description, DESCRIPTION_LENGTH};
 use crate::generate::random::Random;
+use crate::generate::signing::{choose_signer, SigningKey};
 use crate::rules::opening::Opened;
 use crate::rules::session::SessionBytes;
 use crate::rules::signing::{SignerNumbers, LONGEST_BLOCK};
@@ -21,6 +21,8 @@ pub enum Call {
     Abandon,
     SigningBlock { signer: SignerNumbers },
     SigningDigest { signer: SignerNumbers },
+    OpenSigned { signing_key: SigningKey },
+    CommitSigned { signing_key: SigningKey },
 }
 
 impl std::fmt::Display for Call {
@@ -35,7 +37,7 @@ impl std::fmt::Display for Call {
 }
 
 /// How many kinds of calls there are.
-pub const CALL_KINDS: usize = 11;
+pub const CALL_KINDS: usize = 13;
 
 /// Everything that a call hands back besides image and session.
 #[derive(Clone, Debug, PartialEq, Eq)]
@@ -72,6 +74,8 @@ impl Call {
             Call::Abandon => "abandon",
             Call::SigningBlock { .. } => "signing block",
             Call::SigningDigest { .. } => "signing digest",
+            Call::OpenSigned { .. } => "open signed",
+            Call::CommitSigned { .. } => "commit signed",
         }
     }
 
@@ -111,25 +115,35 @@ impl Call {
             Call::Abandon => subject.abandon(session),
             Call::SigningBlock { signer } => subject.signing_block(image, signer, as_array(&mut buffer)),
             Call::SigningDigest { signer } => subject.signing_digest(image, signer, as_array(&mut buffer)),
+            Call::OpenSigned { signing_key } => {
+                subject.open_signed(image, &signing_key.key, &signing_key.signer, &mut description)
+            }
+            Call::CommitSigned { signing_key } => {
+                subject.commit_signed(image, session, &signing_key.key, &signing_key.signer)
+            }
         };
         Outcome { answer, buffer, description }
     }
 
-    /// Any call, with arguments that fit these partitions most of the time. In a begun session writes are frequent.
-    pub fn choose(random: &mut Random, opened: Option<&Opened>, begun: bool) -> Call {
-        let shares: [u64; CALL_KINDS] =
-            if begun { [2, 10, 18, 6, 2, 3, 44, 11, 4, 4, 3] } else { [3, 20, 4, 14, 5, 40, 6, 4, 4, 6, 4] };
+    /// Any call, with arguments that fit these partitions and this key most of the time. In a begun session writes are
+    /// frequent.
+    pub fn choose(random: &mut Random, opened: Option<&Opened>, signing_key: &SigningKey, begun: bool) -> Call {
+        let shares: [u64; CALL_KINDS] = if begun {
+            [2, 10, 18, 6, 2, 3, 44, 7, 4, 4, 3, 4, 7]
+        } else {
+            [3, 20, 4, 14, 5, 40, 6, 4, 4, 6, 4, 12, 4]
+        };
         let mut share = random.below(shares.iter().sum());
         let mut number = 0;
         while share >= shares[number] {
             share -= shares[number];
             number += 1;
         }
-        Call::of_kind(random, opened, number)
+        Call::of_kind(random, opened, signing_key, number)
     }
 
     /// A call of one of these kinds, in the order of the declarations above.
-    pub fn of_kind(random: &mut Random, opened: Option<&Opened>, number: usize) -> Call {
+    pub fn of_kind(random: &mut Random, opened: Option<&Opened>, signing_key: &SigningKey, number: usize) -> Call {
         let partition = choose_partition(random, opened);
         let (data_size, block_size) = data_shape(opened, partition);
         match number {
@@ -152,7 +166,9 @@ impl Call {
             7 => Call::Commit,
             8 => Call::Abandon,
             9 => Call::SigningBlock { signer: choose_signer(random) },
-            _ => Call::SigningDigest { signer: choose_signer(random) },
+            10 => Call::SigningDigest { signer: choose_signer(random) },
+            11 => Call::OpenSigned { signing_key: signing_key.vary(random) },
+            _ => Call::CommitSigned { signing_key: signing_key.vary(random) },
         }
     }
 }

@@ -1,7 +1,7 @@
 //! Images whose levels of bits have no bit to spare: DPFS level 2 has exactly 8 x size blocks for level 1's size, and level 3
 //! as many for level 2's. They open and take sessions; one block more in either level is refusal 7.
 
-use super::check_open;
+use super::check_opening;
 use super::list::List;
 use super::tally::Tally;
 use crate::generate::damage::{add_block, Patient};
@@ -29,10 +29,10 @@ fn run_case(random: &mut Random, subject: Option<&dyn Subject>, tally: &mut Tall
         for level in [2, 3] {
             let mut patient = Patient { image: sample.image.clone(), opened: sample.opened.clone(), target };
             add_block(&mut patient, level);
-            check_open(&patient.image, 7, subject).map_err(|complaint| {
-                format!("one block more in DPFS level {level} of partition {target}: {complaint}")
-            })?;
+            check_opening(7, subject, |library, description| library.open(&patient.image, description)).map_err(
+                |complaint| format!("one block more in DPFS level {level} of partition {target}: {complaint}"),
+            )?;
         }
     }
-    List::new(sample, subject, tally).run(random, CALLS)
+    List::new(random, sample, subject, tally).run(random, CALLS)
 }

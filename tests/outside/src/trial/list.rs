@@ -2,12 +2,14 @@
 //! bytes must be as before, and the subject must have done just the same.
 
 use super::call::{untouched_buffer, Call, Outcome, UNTOUCHED_DESCRIPTION};
-use super::properties::{check_begin, check_commit, check_write, require, touched_master_entries};
+use super::properties::{check_begin, check_commit, check_signed_commit, check_write, require, touched_master_entries};
 use super::rows::touches_row;
-use super::signing::check_signing;
+use super::signatures::signed_answer;
+use super::signing::{check_signing, kind_of};
 use super::tally::Tally;
-use crate::description::{describe, name_at};
+use crate::description::{describe, name_at, Description};
 use crate::generate::random::Random;
+use crate::generate::signing::SigningKey;
 use crate::generate::Sample;
 use crate::model::{Model, Version};
 use crate::rules::descriptor::ENTRY;
@@ -18,6 +20,7 @@ use crate::rules::opening::{open, Opened};
 use crate::rules::protected::free_bytes;
 use crate::rules::refusal::{answer_code, Refusal};
 use crate::rules::session::{Session, SessionBytes, SESSION_LENGTH};
+use crate::rules::signing::SIGNATURE_LENGTH;
 use crate::subject::{Rules, Subject};
 
 pub struct List<'a> {
@@ -27,6 +30,8 @@ pub struct List<'a> {
     session: SessionBytes,
     /// Session values that were handed out earlier.
     kept: Vec<SessionBytes>,
+    /// The host's key, which has signed most of the images.
+    signing_key: SigningKey,
     /// What opening must say now.
     opened: Opened,
     /// The reference model of each partition.
@@ -36,7 +41,16 @@ pub struct List<'a> {
 }
 
 impl<'a> List<'a> {
-    pub fn new(sample: Sample, subject: Option<&'a dyn Subject>, tally: &'a mut Tally) -> List<'a> {
+    pub fn new(
+        random: &mut Random,
+        mut sample: Sample,
+        subject: Option<&'a dyn Subject>,
+        tally: &'a mut Tally,
+    ) -> List<'a> {
+        let signing_key = SigningKey::choose(random, &sample.image);
+        if random.chance(75) {
+            signing_key.sign(&mut sample.image);
+        }
         let free = free_bytes(&sample.image, &sample.opened);
         let models = sample
             .opened
@@ -51,6 +65,7 @@ impl<'a> List<'a> {
             image: sample.image,
             session: [0; SESSION_LENGTH],
             kept: Vec::new(),
+            signing_key,
             opened: sample.opened,
             models,
             free,
@@ -68,7 +83,10 @@ impl<'a> List<'a> {
             if random.chance(5) {
                 self.disturb(random).map_err(|complaint| format!("after a foreign change: {complaint}"))?;
             }
-            let call = Call::choose(random, Some(&self.opened), self.session[0] != 0);
+            if random.chance(5) {
+                self.sign(random).map_err(|complaint| format!("after the host has signed: {complaint}"))?;
+            }
+            let call = Call::choose(random, Some(&self.opened), &self.signing_key, self.session[0] != 0);
             let forged = random.chance(15);
             let mut session = if forged { self.forge_session(random) } else { self.session };
             self.try_call(&call, &mut session).map_err(|complaint| format!("{call}: {complaint}"))?;
@@ -164,22 +182,22 @@ impl<'a> List<'a> {
     }
 
     fn predict(&self, call: &Call, image: &[u8], session: &SessionBytes) -> Option<Prediction> {
-        let refused = |refusal: Refusal| Some(Prediction::Answer(answer_code(Err(refusal))));
-        let needs_begun = matches!(call, Call::ReadStaged { .. } | Call::Write { .. } | Call::Commit);
-        if needs_begun {
-            match Session::from_bytes(session) {
-                Session::Idle => return refused(Refusal::WrongSession),
-                Session::Begun(remembered) if remembered[..] != image[HEADER..HEADER + HEADER_LENGTH] => {
-                    return refused(Refusal::Outdated)
+        match call {
+            Call::ReadStaged { .. } | Call::Write { .. } | Call::Commit | Call::CommitSigned { .. } => {
+                if let Err(prediction) = self.predict_session(image, session) {
+                    return prediction;
                 }
-                // Without a staged version the model does not know what the inactive table holds.
-                Session::Begun(_) if !self.held() => return None,
-                Session::Begun(_) => {}
             }
+            _ => {}
         }
         match call {
             Call::Open => Some(Prediction::Answer(0)),
             Call::Commit => Some(Prediction::Answer(0)),
+            Call::CommitSigned { signing_key } if kind_of(signing_key.signer) == self.opened.header.kind => {
+                Some(Prediction::Answer(0))
+            }
+            Call::CommitSigned { .. } => refused(Refusal::WrongSigner),
+            Call::OpenSigned { signing_key } => Some(Prediction::Answer(signed_answer(image, signing_key, 0))),
             Call::Begin if session[0] == 0 => Some(Prediction::Answer(0)),
             Call::Abandon if session[0] != 0 => Some(Prediction::Answer(0)),
             Call::Begin | Call::Abandon => refused(Refusal::WrongSession),
@@ -195,6 +213,19 @@ impl<'a> List<'a> {
                     Some(model) => self.predict_in_partition(call, image, model, *partition as usize),
                 }
             }
+        }
+    }
+
+    /// The prediction for a call that needs a begun session, if the session decides it.
+    fn predict_session(&self, image: &[u8], session: &SessionBytes) -> Result<(), Option<Prediction>> {
+        match Session::from_bytes(session) {
+            Session::Idle => Err(refused(Refusal::WrongSession)),
+            Session::Begun(remembered) if remembered[..] != image[HEADER..HEADER + HEADER_LENGTH] => {
+                Err(refused(Refusal::Outdated))
+            }
+            // Without a staged version the model does not know what the inactive table holds.
+            Session::Begun(_) if !self.held() => Err(None),
+            Session::Begun(_) => Ok(()),
         }
     }
 
@@ -238,36 +269,72 @@ impl<'a> List<'a> {
     ) -> Result<(), String> {
         let expected_session = match call {
             Call::Begin => Session::begun(before).to_bytes(),
-            Call::Commit | Call::Abandon => [0; SESSION_LENGTH],
+            Call::Commit | Call::CommitSigned { .. } | Call::Abandon => [0; SESSION_LENGTH],
             _ => *session_before,
         };
         require(*session == expected_session, || "the session is wrong".into())?;
+        self.check_image(call, before)?;
         match call {
-            Call::Begin => check_begin(before, &self.image, &self.opened)?,
-            Call::Commit => check_commit(before, &self.image, &self.opened)?,
+            Call::Commit => return self.follow_commit(),
+            Call::CommitSigned { signing_key } => {
+                self.follow_commit()?;
+                self.signing_key = *signing_key;
+                return self.check_signed();
+            }
+            Call::Open | Call::OpenSigned { .. } => self.check_description(&outcome.description)?,
+            _ => {}
+        }
+        self.check_protected(before)?;
+        self.feed(call);
+        Ok(())
+    }
+
+    /// What an accepted call has changed in the image is what it must change.
+    fn check_image(&mut self, call: &Call, before: &[u8]) -> Result<(), String> {
+        match call {
+            Call::Begin => check_begin(before, &self.image, &self.opened),
+            Call::Commit => check_commit(before, &self.image, &self.opened),
+            Call::CommitSigned { signing_key } => check_signed_commit(before, &self.image, &self.opened, signing_key),
             Call::Write { partition, place, data } => {
                 let partition = &self.opened.partitions[*partition as usize];
                 let range = Extent::new(*place, data.len() as u64);
                 let moved_before = check_write(before, &self.image, &self.opened, partition, range)?;
                 self.tally.writes_upon_writes += u64::from(moved_before);
                 self.tally.later_entries += u64::from(touched_master_entries(partition, range).end > 1);
-                require(!data.is_empty() || self.image == before, || "an empty write changed the image".into())?;
+                require(!data.is_empty() || self.image == before, || "an empty write changed the image".into())
             }
-            _ => require(self.image == before, || "the image changed".into())?,
+            _ => require(self.image == before, || "the image changed".into()),
         }
-        if let Call::Open = call {
-            let expected = describe(&self.opened);
-            if let Some(index) = (0..expected.len()).find(|index| outcome.description[*index] != expected[*index]) {
-                return Err(format!("the description's {} is wrong", name_at(index)));
-            }
+    }
+
+    fn check_description(&self, description: &Description) -> Result<(), String> {
+        let expected = describe(&self.opened);
+        match (0..expected.len()).find(|index| description[*index] != expected[*index]) {
+            Some(index) => Err(format!("the description's {} is wrong", name_at(index))),
+            None => Ok(()),
         }
-        if let Call::Commit = call {
-            self.follow_commit()
-        } else {
-            self.check_protected(before)?;
-            self.feed(call);
-            Ok(())
+    }
+
+    /// What signed opening answers under the host's key.
+    fn signed_answer(&self) -> u64 {
+        let SigningKey { key, signer } = &self.signing_key;
+        Rules.open_signed(&self.image, key, signer, &mut UNTOUCHED_DESCRIPTION.clone())
+    }
+
+    /// Under the host's key the image opens.
+    fn check_signed(&mut self) -> Result<(), String> {
+        let answer = self.signed_answer();
+        require(answer == 0, || format!("signed opening answered {answer:#x}, not 0"))?;
+        self.try_call(&Call::OpenSigned { signing_key: self.signing_key }, &mut [0; SESSION_LENGTH])
+    }
+
+    /// The host signs the image as it is, now and then with another key.
+    fn sign(&mut self, random: &mut Random) -> Result<(), String> {
+        if random.chance(30) {
+            self.signing_key = SigningKey::choose(random, &self.image);
         }
+        self.signing_key.sign(&mut self.image);
+        self.check_signed()
     }
 
     fn feed(&mut self, call: &Call) {
@@ -319,9 +386,10 @@ impl<'a> List<'a> {
         Ok(())
     }
 
-    /// Power fails inside a call: any free byte may hold anything. Opening and the committed view are as before.
+    /// Power fails inside a call: any free byte may hold anything. Both openings and the committed view are as before.
     fn fail_power(&mut self, random: &mut Random) -> Result<(), String> {
         self.tally.power_failures += 1;
+        let signed_before = self.signed_answer();
         let share = random.pick(&[100, 100, 50, 5]);
         let table = self.opened.header.inactive_table();
         let keep_table = random.chance(30);
@@ -338,6 +406,9 @@ impl<'a> List<'a> {
         }
         self.check_views()?;
         self.try_call(&Call::Open, &mut [0; SESSION_LENGTH])?;
+        let signed = self.signed_answer();
+        require(signed == signed_before, || format!("signed opening answered {signed:#x}, not {signed_before:#x}"))?;
+        self.try_call(&Call::OpenSigned { signing_key: self.signing_key }, &mut [0; SESSION_LENGTH])?;
         for partition in 0..self.models.len() {
             let length = self.models[partition].committed.bytes.len();
             let whole = Call::ReadCommitted { partition: partition as u64, place: 0, length };
@@ -348,11 +419,17 @@ impl<'a> List<'a> {
 
     /// Somebody else changes a byte between two calls.
     fn disturb(&mut self, random: &mut Random) -> Result<(), String> {
-        match random.below(3) {
-            // The first 0x100 bytes are never read: nothing follows from them.
-            0 => self.image[random.below(HEADER as u64) as usize] ^= 1 << random.below(8),
-            // Unused header bytes: sessions begun before are outdated.
+        match random.below(4) {
+            0 => self.disturb_signature(random)?,
+            // The bytes between signature and header are never read: nothing follows from them.
             1 => {
+                let signed_before = self.signed_answer();
+                let noise = random.bytes(HEADER - SIGNATURE_LENGTH);
+                self.image[SIGNATURE_LENGTH..HEADER].copy_from_slice(&noise);
+                require(self.signed_answer() == signed_before, || "signed opening reads more than it may".into())?;
+            }
+            // Unused header bytes: sessions begun before are outdated.
+            2 => {
                 let unused = self.opened.header.kind.hash_place() + 32;
                 let place = HEADER as u64 + random.between(unused as u64, HEADER_LENGTH as u64 - 1);
                 self.image[place as usize] ^= 1 << random.below(8);
@@ -365,6 +442,15 @@ impl<'a> List<'a> {
             self.session = [0; SESSION_LENGTH];
         }
         self.check_views()
+    }
+
+    /// A signature with a changed bit fits no more.
+    fn disturb_signature(&mut self, random: &mut Random) -> Result<(), String> {
+        let fitted = self.signed_answer() == 0;
+        self.image[random.below(SIGNATURE_LENGTH as u64) as usize] ^= 1 << random.below(8);
+        let answer = self.signed_answer();
+        require(!fitted || answer == 16, || format!("signed opening answered {answer:#x}, not 16"))?;
+        self.try_call(&Call::OpenSigned { signing_key: self.signing_key }, &mut [0; SESSION_LENGTH])
     }
 
     /// A staged table with a changed bit is outdated, unless the bit is part of a master hash.
@@ -394,6 +480,10 @@ enum Prediction {
     /// Accepted, with these bytes in the buffer.
     Bytes(Vec<u8>),
     Answer(u64),
+}
+
+fn refused(refusal: Refusal) -> Option<Prediction> {
+    Some(Prediction::Answer(answer_code(Err(refusal))))
 }
 
 fn version_of(view: &View) -> Version {

@@ -1,5 +1,5 @@
-//! Random cases: lists of calls on valid images, damaged images, images with random changes, blocks for signing, and
-//! running digests.
+//! Random cases: lists of calls on valid images, damaged images, images with random changes, signatures, blocks for
+//! signing, and running digests.
 
 pub mod call;
 mod digest;
@@ -7,12 +7,15 @@ mod full_bits;
 pub mod list;
 pub mod properties;
 mod rows;
+mod signatures;
 mod signing;
 pub mod tally;
 
+use crate::description::Description;
 use crate::generate::damage::{any_damage, damaged_image, mutate, patient, Damage, DAMAGES};
 use crate::generate::random::Random;
 use crate::generate::shape::Wanted;
+use crate::generate::signing::SigningKey;
 use crate::generate::{valid_image, Sample};
 use crate::model::Version;
 use crate::rules::dpfs::View;
@@ -24,6 +27,7 @@ use call::{Call, CALL_KINDS, UNTOUCHED_DESCRIPTION};
 use digest::{run_digest_case, run_long_message};
 use list::{compare_subject, List};
 use properties::require;
+use signatures::{check_signed_opening, run_signature_cases, signed_answer};
 use signing::{check_signing, run_length_cases, run_signing_case};
 use tally::Tally;
 
@@ -34,7 +38,7 @@ pub fn run_case(seed: u64, subject: Option<&dyn Subject>, tally: &mut Tally) -> 
         0..=59 => {
             let sample = valid_image(random, &Wanted::default());
             let calls = random.between(1, 30);
-            List::new(sample, subject, tally).run(random, calls)
+            List::new(random, sample, subject, tally).run(random, calls)
         }
         60..=73 => {
             let damage = any_damage(random);
@@ -60,7 +64,8 @@ pub fn run_case(seed: u64, subject: Option<&dyn Subject>, tally: &mut Tally) -> 
 /// How often every run tries each damage, so that each of its values comes up.
 const TRIES_OF_EACH_DAMAGE: u64 = 40;
 
-/// Cases that every run must have tried: each damage, levels of bits that are full, the limits of an image's length, a long message.
+/// Cases that every run must have tried: each damage, levels of bits that are full, the limits of an image's length, each bit
+/// of a signature, a long message.
 pub fn run_fixed_cases(subject: Option<&dyn Subject>, tally: &mut Tally) -> Result<(), String> {
     let random = &mut Random::new(0);
     for damage in DAMAGES {
@@ -72,21 +77,31 @@ pub fn run_fixed_cases(subject: Option<&dyn Subject>, tally: &mut Tally) -> Resu
     }
     full_bits::run(subject, tally)?;
     let mut image = valid_image(&mut Random::new(0), &Wanted::default()).image;
+    let signing_key = SigningKey::choose(random, &image);
+    signing_key.sign(&mut image);
     for (length, number) in [(LONGEST_IMAGE, 0), (LONGEST_IMAGE + 1, 1)] {
         image.resize(length, 0x55);
-        check_open(&image, number, subject).map_err(|complaint| format!("length {length:#x}: {complaint}"))?;
+        check_opening(number, subject, |library, description| library.open(&image, description))
+            .and_then(|()| check_signed_opening(&image, &signing_key, number, subject))
+            .map_err(|complaint| format!("length {length:#x}: {complaint}"))?;
     }
     run_length_cases(subject, tally)?;
+    run_signature_cases(subject).map_err(|complaint| format!("signatures: {complaint}"))?;
     run_long_message(subject, tally).map_err(|complaint| format!("a million letters: {complaint}"))
 }
 
-fn check_open(image: &[u8], number: u64, subject: Option<&dyn Subject>) -> Result<(), String> {
+/// A way of opening answers this number, and the subject's does the same.
+fn check_opening(
+    number: u64,
+    subject: Option<&dyn Subject>,
+    opening: impl Fn(&dyn Subject, &mut Description) -> u64,
+) -> Result<(), String> {
     let mut described = UNTOUCHED_DESCRIPTION;
-    let answer = Rules.open(image, &mut described);
+    let answer = opening(&Rules, &mut described);
     require(answer == number, || format!("opening answered {answer:#x}, not {number}"))?;
     let Some(subject) = subject else { return Ok(()) };
     let mut other = UNTOUCHED_DESCRIPTION;
-    let answer = subject.open(image, &mut other);
+    let answer = opening(subject, &mut other);
     require(answer == number, || format!("the subject's opening answered {answer:#x}, not {number}"))?;
     require(described == other, || "the subject's description differs".into())
 }
@@ -101,7 +116,7 @@ fn any_image(
     match open(&image) {
         Ok(opened) => {
             let versions = versions(&image, &opened);
-            List::new(Sample { image, opened, versions }, subject, tally).run(random, 6)
+            List::new(random, Sample { image, opened, versions }, subject, tally).run(random, 6)
         }
         Err(_) => refused_image(random, image, None, subject, tally),
     }
@@ -116,11 +131,11 @@ fn versions(image: &[u8], opened: &Opened) -> Vec<Version> {
         .collect()
 }
 
-/// Every call but abandon and the ones for signing answers opening's number, whatever its arguments and session, and
-/// changes nothing.
+/// Every call but abandon, signed opening and the ones for signing answers opening's number, whatever its arguments and
+/// session, and changes nothing. Most of the images are signed as they are.
 fn refused_image(
     random: &mut Random,
-    image: Vec<u8>,
+    mut image: Vec<u8>,
     damage: Option<&Damage>,
     subject: Option<&dyn Subject>,
     tally: &mut Tally,
@@ -129,31 +144,48 @@ fn refused_image(
         Some(damage) => damage.number,
         None => open(&image).err().map_or(0, |refusal| refusal.number()),
     };
+    let signing_key = SigningKey::choose(random, &image);
+    if random.chance(80) {
+        signing_key.sign(&mut image);
+    }
     for kind in 0..CALL_KINDS {
-        let call = Call::of_kind(random, None, kind);
-        let session_before = choose_session(random, &image);
-        let mut after = image.clone();
-        let mut session = session_before;
-        let outcome = call.perform(&Rules, &mut after, &mut session);
-        tally.note(call.name(), outcome.answer);
-        if let Some(subject) = subject {
-            compare_subject(subject, &call, &image, &session_before, &after, &session, &outcome)?;
-        }
-        let answered = |number: u64| {
-            require(outcome.answer == number, || format!("{call} answered {:#x}, not {number}", outcome.answer))
-        };
-        match call {
-            Call::Abandon => answered(if session_before[0] == 0 { 13 } else { 0 })?,
-            Call::SigningBlock { .. } | Call::SigningDigest { .. } => {
-                check_signing(&image, &call, &outcome).map_err(|complaint| format!("{call}: {complaint}"))?;
-            }
-            _ => answered(number)?,
-        }
-        let may_change = matches!(call, Call::Abandon);
-        require(may_change || session == session_before, || format!("{call} changed the session"))?;
-        require(after == image, || format!("{call} changed the image"))?;
+        let call = Call::of_kind(random, None, &signing_key, kind);
+        let session = choose_session(random, &image);
+        try_refused(&image, session, &call, number, subject, tally)?;
     }
     Ok(())
+}
+
+/// One call on an image to which opening answers `number`.
+fn try_refused(
+    image: &[u8],
+    session_before: SessionBytes,
+    call: &Call,
+    number: u64,
+    subject: Option<&dyn Subject>,
+    tally: &mut Tally,
+) -> Result<(), String> {
+    let mut after = image.to_vec();
+    let mut session = session_before;
+    let outcome = call.perform(&Rules, &mut after, &mut session);
+    tally.note(call.name(), outcome.answer);
+    if let Some(subject) = subject {
+        compare_subject(subject, call, image, &session_before, &after, &session, &outcome)?;
+    }
+    let answered = |number: u64| {
+        require(outcome.answer == number, || format!("{call} answered {:#x}, not {number}", outcome.answer))
+    };
+    match call {
+        Call::Abandon => answered(if session_before[0] == 0 { 13 } else { 0 })?,
+        Call::OpenSigned { signing_key } => answered(signed_answer(image, signing_key, number))?,
+        Call::SigningBlock { .. } | Call::SigningDigest { .. } => {
+            check_signing(image, call, &outcome).map_err(|complaint| format!("{call}: {complaint}"))?;
+        }
+        _ => answered(number)?,
+    }
+    let may_change = matches!(call, Call::Abandon);
+    require(may_change || session == session_before, || format!("{call} changed the session"))?;
+    require(after == image, || format!("{call} changed the image"))
 }
 
 /// Idle, begun with the image's header if it has one, or noise.

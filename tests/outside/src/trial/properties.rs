@@ -2,6 +2,8 @@
 
 use std::ops::Range;
 
+use super::signatures::expected_signature;
+use crate::generate::signing::SigningKey;
 use crate::rules::calls::{blocks_of, touched_blocks};
 use crate::rules::descriptor::{ENTRY, SELECTOR};
 use crate::rules::dpfs::{bit_place, View};
@@ -9,6 +11,7 @@ use crate::rules::extent::Extent;
 use crate::rules::header::HEADER;
 use crate::rules::opening::{Opened, Partition};
 use crate::rules::sha256::sha256;
+use crate::rules::signing::SIGNATURE_LENGTH;
 
 /// Says what is wrong if a condition fails.
 pub fn require(condition: bool, complaint: impl FnOnce() -> String) -> Result<(), String> {
@@ -48,13 +51,30 @@ pub fn check_begin(before: &[u8], after: &[u8], opened: &Opened) -> Result<(), S
 
 /// Commit changes the flag and the table's hash, and nothing else.
 pub fn check_commit(before: &[u8], after: &[u8], opened: &Opened) -> Result<(), String> {
+    check_committed(before, after, opened, 0..0)
+}
+
+/// A signed commit changes the first 16 bytes too, to the signature of the new header.
+pub fn check_signed_commit(
+    before: &[u8],
+    after: &[u8],
+    opened: &Opened,
+    signing_key: &SigningKey,
+) -> Result<(), String> {
+    let signature = expected_signature(after, signing_key);
+    require(after[..SIGNATURE_LENGTH] == signature, || "commit: the signature".into())?;
+    check_committed(before, after, opened, 0..SIGNATURE_LENGTH)
+}
+
+/// Flag and hash are the new ones; besides them only bytes in `signature` may change.
+fn check_committed(before: &[u8], after: &[u8], opened: &Opened, signature: Range<usize>) -> Result<(), String> {
     let kind = opened.header.kind;
     let flag = HEADER + kind.flag_place().0;
     let hash = HEADER + kind.hash_place()..HEADER + kind.hash_place() + 32;
     require(u64::from(after[flag]) == 1 - opened.header.flag, || "commit: the flag".into())?;
     require(after[hash.clone()] == sha256(opened.header.inactive_table().of(before)), || "commit: the hash".into())?;
     for (position, (old, new)) in before.iter().zip(after).enumerate() {
-        let may_change = position == flag || hash.contains(&position);
+        let may_change = position == flag || hash.contains(&position) || signature.contains(&position);
         require(old == new || may_change, || format!("commit: changed the byte at {position:#x}"))?;
     }
     Ok(())

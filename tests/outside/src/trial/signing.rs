@@ -6,14 +6,12 @@ use super::properties::require;
 use super::tally::Tally;
 use crate::generate::contents::put;
 use crate::generate::random::Random;
+use crate::generate::signing::choose_signer;
 use crate::rules::header::{Kind, DIFF_OPENING, DISA_OPENING, HEADER, LONGEST_IMAGE, SHORTEST_IMAGE};
 use crate::rules::session::SESSION_LENGTH;
 use crate::rules::sha256::sha256;
-use crate::rules::signing::{BlockBytes, SignerNumbers, LONGEST_BLOCK};
+use crate::rules::signing::{BlockBytes, SignerNumbers, LONGEST_BLOCK, SIGNER_TYPES};
 use crate::subject::{Rules, Subject};
-
-/// How many types of signers there are; Quota.dat is one of its own.
-const TYPES: u64 = 6;
 
 /// What the document prints of one type. An ID stands at 0x08 if there is one.
 struct Form {
@@ -27,7 +25,7 @@ struct Form {
 }
 
 #[rustfmt::skip]
-const FORMS: [Form; TYPES as usize] = [
+const FORMS: [Form; SIGNER_TYPES as usize] = [
     Form { opening: b"CTR-NOR0", length: 0x28, kind: Kind::Disa, id_length: 0, header: 0x08, hashed: true },
     Form { opening: b"CTR-SIGN", length: 0x30, kind: Kind::Disa, id_length: 8, header: 0x10, hashed: true },
     Form { opening: b"CTR-SYS0", length: 0x110, kind: Kind::Disa, id_length: 4, header: 0x10, hashed: false },
@@ -36,19 +34,6 @@ const FORMS: [Form; TYPES as usize] = [
     Form { opening: b"CTR-9DB0", length: 0x10C, kind: Kind::Diff, id_length: 4, header: 0x0C, hashed: false },
 ];
 const FILE: u64 = 4;
-
-/// Any signer: each type as often as another, now and then one that is taken modulo six.
-pub fn choose_signer(random: &mut Random) -> SignerNumbers {
-    let kind = random.below(TYPES);
-    let (next, any) = (kind + TYPES, random.number());
-    let kind = if random.chance(75) { kind } else { random.pick(&[next, any, any, u64::MAX]) };
-    [kind, choose_id(random), choose_id(random), choose_id(random)]
-}
-
-fn choose_id(random: &mut Random) -> u64 {
-    let any = random.number();
-    random.pick(&[any, any, any, any & 0xFFFF_FFFF, any << 32, 0, 1, 0xFFFF_FFFF, 1 << 32, u64::MAX])
-}
 
 /// A small image with a header of either kind or nearly so; the rest is noise. Now and then it is too short.
 pub fn run_signing_case(random: &mut Random, subject: Option<&dyn Subject>, tally: &mut Tally) -> Result<(), String> {
@@ -89,7 +74,7 @@ pub fn run_length_cases(subject: Option<&dyn Subject>, tally: &mut Tally) -> Res
         image.resize(length, 0x55);
         for opening in [DISA_OPENING, DIFF_OPENING, b"DIFF\x00\x00\x04\x00"] {
             put(&mut image, HEADER, opening);
-            for kind in 0..TYPES {
+            for kind in 0..SIGNER_TYPES {
                 let signer = [kind, random.number(), random.number(), random.number()];
                 for call in [Call::SigningBlock { signer }, Call::SigningDigest { signer }] {
                     compare_in_place(&mut image, &call, subject, tally)
@@ -142,11 +127,16 @@ pub fn check_signing(image: &[u8], call: &Call, outcome: &Outcome) -> Result<(),
 }
 
 fn form(signer: SignerNumbers) -> &'static Form {
-    &FORMS[(signer[0] % TYPES) as usize]
+    &FORMS[(signer[0] % SIGNER_TYPES) as usize]
+}
+
+/// The kind of container that a signer signs.
+pub fn kind_of(signer: SignerNumbers) -> Kind {
+    form(signer).kind
 }
 
 /// 1, 2, 15 in that order, or 0: nothing else of an image is judged.
-fn expected_refusal(image: &[u8], signer: SignerNumbers) -> u64 {
+pub fn expected_refusal(image: &[u8], signer: SignerNumbers) -> u64 {
     if !(SHORTEST_IMAGE..=LONGEST_IMAGE).contains(&image.len()) {
         return 1;
     }
@@ -154,7 +144,7 @@ fn expected_refusal(image: &[u8], signer: SignerNumbers) -> u64 {
     if opening != DISA_OPENING && opening != DIFF_OPENING {
         return 2;
     }
-    let fits = (opening == DISA_OPENING) == (form(signer).kind == Kind::Disa);
+    let fits = (opening == DISA_OPENING) == (kind_of(signer) == Kind::Disa);
     if fits {
         0
     } else {
@@ -163,14 +153,14 @@ fn expected_refusal(image: &[u8], signer: SignerNumbers) -> u64 {
 }
 
 /// The block, its fields put at their places into zeros, and its length. An image that is too short has none.
-fn block_by_places(image: &[u8], signer: SignerNumbers) -> (BlockBytes, usize) {
+pub fn block_by_places(image: &[u8], signer: SignerNumbers) -> (BlockBytes, usize) {
     let [_, id, name, directory] = signer;
     let form = form(signer);
     let mut block = [0; LONGEST_BLOCK];
     let Some(header) = image.get(HEADER..SHORTEST_IMAGE) else { return (block, 0) };
     put(&mut block, 0x00, form.opening);
     put(&mut block, 0x08, &id.to_le_bytes()[..form.id_length]);
-    if signer[0] % TYPES == FILE {
+    if signer[0] % SIGNER_TYPES == FILE {
         put(&mut block, 0x10, &1u32.to_le_bytes());
         put(&mut block, 0x14, &name.to_le_bytes()[..4]);
         put(&mut block, 0x18, &directory.to_le_bytes()[..4]);

@@ -1,6 +1,6 @@
 //! How often each call gave each answer, so that a run shows what it has tried.
 
-pub const CALLS: [&str; 14] = [
+pub const CALLS: [&str; 16] = [
     "open",
     "read committed",
     "read staged",
@@ -12,6 +12,8 @@ pub const CALLS: [&str; 14] = [
     "abandon",
     "signing block",
     "signing digest",
+    "open signed",
+    "commit signed",
     "digest start",
     "digest feed",
     "digest finish",
