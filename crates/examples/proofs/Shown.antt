@@ -20,7 +20,7 @@ use Rattle.layout.specs.declared.JudgedHeader.the-variants.{GoodHeader, BadHead
 use Rattle.layout.specs.declared.JudgedPartition.the-variants.{BadPartition}
 use Rattle.layout.specs.declared.Refusal.the-variants.{Selection, Geometry, Placement, OutOfRange}
 use Rattle.layout.specs.Magic.{opensWith, diffMagic}
-use Rattle.layout.specs.Limits.{difiSize}
+use Rattle.limits.specs.Limits.{difiSize}
 use Rattle.layout.specs.Headers.{diffHeader, judgedHeader, judgedFields, selectionAllowed, geometryAllowed}
 use Rattle.layout.specs.Tables.{active}
 use Rattle.layout.specs.Descriptors.{partitionFields, formAllowed, placesAllowed, enoughBits, judgedPartition}

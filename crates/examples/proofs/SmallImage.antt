@@ -19,8 +19,9 @@ use Rattle.layout.specs.Every.{onto, every}
 use Rattle.layout.specs.Magic.{opensWith, diffMagic, difiMagic, ivfcMagic, dpfsMagic}
 use Rattle.layout.specs.Headers.{headerBytes, diffHeader, selectionAllowed, geometryAllowed, judgedFields, judgedHeader}
 use Rattle.layout.specs.Tables.{active, tableMatches}
-use Rattle.layout.specs.Descriptors.{difiFields, ivfcFields, dpfsFields, partitionFields, sizeAllowed, levelAllowed, difiAllowed, ivfcAllowed, dpfsAllowed, formAllowed, piecesPlaced, levelsPlaced, enoughBits, enoughEntries, allEnough, placesAllowed, judgedPartition}
-use Rattle.layout.specs.Opening.{lengthAllowed, opened}
+use Rattle.layout.specs.Descriptors.{difiFields, ivfcFields, dpfsFields, partitionFields, difiAllowed, ivfcAllowed, dpfsAllowed, formAllowed, piecesPlaced, levelsPlaced, enoughBits, enoughEntries, allEnough, placesAllowed, judgedPartition}
+use Rattle.limits.specs.Limits.{sizeAllowed, levelAllowed, lengthAllowed}
+use Rattle.layout.specs.Opening.{opened}
 use Rattle.layout.proofs.GuaranteeLaws.{opens}
 use Rattle.dpfs.specs.Bits.{bitByte, bitPlace, testBit, wordOf, bitOf}
 use Rattle.dpfs.specs.Tree.{place, levelByte, select1, select2, select3, content}

@@ -32,7 +32,8 @@ use Rattle.layout.specs.declared.JudgedPartition.the-variants.{GoodPartition}
 use Rattle.layout.specs.Headers.{front, headerRange, headerBytes, hashRange, judgedHeader}
 use Rattle.layout.specs.Tables.{active, inactive, tableMatches}
 use Rattle.layout.specs.Descriptors.{difiFields, partitionFields}
-use Rattle.layout.specs.Opening.{opened, lengthAllowed, judgedSlot}
+use Rattle.layout.specs.Opening.{opened, judgedSlot}
+use Rattle.limits.specs.Limits.{lengthAllowed}
 use Rattle.layout.specs.Guarantees.{PartitionGuarantees, Guarantees}
 use Rattle.layout.proofs.HeaderLaws.{header-checked}
 use Rattle.layout.proofs.GuaranteeLaws.{SecondChecks, checked, opens, partition-checked, guarantees}

@@ -24,7 +24,7 @@ use Rattle.layout.specs.declared.Partition.{Partition}
 use Rattle.layout.specs.declared.JudgedHeader.the-variants.{GoodHeader, BadHeader}
 use Rattle.layout.specs.declared.Refusal.the-variants.{Format, Selection, Geometry}
 use Rattle.layout.specs.declared.JudgedPartition.the-variants.{GoodPartition}
-use Rattle.layout.specs.Limits.{difiSize, ivfcSize, dpfsSize, masterAllowed}
+use Rattle.limits.specs.Limits.{difiSize, ivfcSize, dpfsSize, masterAllowed}
 use Rattle.layout.specs.Every.{every}
 use Rattle.layout.specs.Magic.{opensWith, disaMagic, diffMagic, difiMagic}
 use Rattle.layout.specs.Headers.{flagOffset, hashRange, rangeAt, noSlot, slotB, disaHeader, diffHeader, headerMagic, headerFields, selectionAllowed, geometryAllowed, judgedFields, judgedHeader}

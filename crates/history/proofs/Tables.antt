@@ -18,7 +18,7 @@ use Rattle.number.proofs.ListLaws.{length-part, getD-part}
 use Rattle.number.proofs.OverlayLaws.{within-out}
 use Rattle.number.proofs.RangeLaws.{apart-swap}
 use Rattle.layout.specs.declared.Container.{Container}
-use Rattle.layout.specs.Limits.{difiSize}
+use Rattle.limits.specs.Limits.{difiSize}
 use Rattle.layout.specs.Tables.{active, inactive}
 use Rattle.layout.specs.Guarantees.{Guarantees}
 use Rattle.dpfs.specs.Rules.{Aside}

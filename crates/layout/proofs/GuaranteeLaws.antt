@@ -12,11 +12,11 @@ use Rattle.number.specs.Ranges.{part}
 use Rattle.number.proofs.Tests.{and-left, and-right}
 use Rattle.number.proofs.ListLaws.{same-is}
 use Rattle.sha256.specs.Sha256.{sha256}
-use Rattle.layout.specs.Limits.{difiSize, shortestImage, longestImage}
+use Rattle.limits.specs.Limits.{difiSize, shortestImage, longestImage, lengthAllowed}
 use Rattle.layout.specs.Headers.{headerBytes, hashRange, geometryAllowed, judgedHeader}
 use Rattle.layout.specs.Tables.{active, tableMatches}
 use Rattle.layout.specs.Descriptors.{partitionFields, formAllowed, placesAllowed, judgedPartition}
-use Rattle.layout.specs.Opening.{lengthAllowed, judgedSlot, afterA, afterB, afterTable, afterHeader, opened}
+use Rattle.layout.specs.Opening.{judgedSlot, afterA, afterB, afterTable, afterHeader, opened}
 use Rattle.layout.specs.Guarantees.{HeaderGuarantees, SlotGuarantees, Described, SecondGuarantees, Guarantees}
 use Rattle.layout.specs.declared.Header.{Header}
 use Rattle.layout.specs.declared.Slot.{Slot}

@@ -16,7 +16,7 @@ use lib.ListN.{length, take, drop}
 use lib.Seq.{sets}
 use Rattle.number.proofs.ListLaws.{same-is, length-part, sets-whole}
 use Rattle.number.proofs.RangeLaws.{placed-rest, placed-fits, fits-ends, Laid, laid, past-first}
-use Rattle.layout.specs.Limits.{tableLimit}
+use Rattle.limits.specs.Limits.{tableLimit}
 use Rattle.layout.specs.Magic.{opensWith, disaMagic, diffMagic}
 use Rattle.layout.specs.Headers.{front, headerBytes, partitionRanges, descriptorRanges, headerMagic, headerFields, disaHeader, diffHeader, selectionAllowed, geometryAllowed, judgedFields, judgedHeader}
 use Rattle.layout.specs.Guarantees.{SlotGuarantees, HeaderGuarantees}

@@ -5,8 +5,7 @@ use mathlib.Core.List.{List}
 use Prim.Native.Nat.{ℕ, _+_, _≤_}
 use native.Mathlib.Omega.{arith}
 use Rattle.number.specs.Fields.{le32, le64}
-use Rattle.layout.specs.Limits.{mostLog}
-use Rattle.layout.specs.Descriptors.{logAt}
+use Rattle.limits.specs.Limits.{mostLog, logAt}
 
 -- padding that is zero
 pub widths-agree : (s : List ℕ) (at : ℕ) → le32 s (at + 4) ≡ 0 → logAt s at ≡ le64 s at

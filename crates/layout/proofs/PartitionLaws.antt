@@ -12,8 +12,8 @@ use Rattle.number.specs.Ranges.{inside, placed, part}
 use Rattle.number.specs.Blocks.{blocks}
 use Rattle.number.proofs.Tests.{and-left, and-right}
 use Rattle.number.proofs.RangeLaws.{Laid, laid, past-first}
-use Rattle.layout.specs.Limits.{difiSize, leastLog, leastBitsLog, mostLog, wordSize, entrySize}
-use Rattle.layout.specs.Descriptors.{sizeAllowed, levelAllowed, difiAllowed, ivfcAllowed, dpfsAllowed, readable, formAllowed, difiRange, piecesPlaced, outerRanges, innerRanges, levelsPlaced, enoughBits, enoughEntries, allEnough, placesAllowed}
+use Rattle.limits.specs.Limits.{difiSize, leastLog, leastBitsLog, mostLog, wordSize, entrySize, sizeAllowed, levelAllowed}
+use Rattle.layout.specs.Descriptors.{difiAllowed, ivfcAllowed, dpfsAllowed, readable, formAllowed, difiRange, piecesPlaced, outerRanges, innerRanges, levelsPlaced, enoughBits, enoughEntries, allEnough, placesAllowed}
 use Rattle.layout.specs.Guarantees.{LevelGuarantees, ExternalGuarantees, InternalGuarantees, PartitionGuarantees}
 use Rattle.layout.specs.declared.Partition.{Partition}
 use Rattle.layout.proofs.Rules.{Truths, truths}

@@ -1,15 +1,15 @@
 -- A descriptor: DIFI at its start, then IVFC, DPFS and the master hash where DIFI places them.
-use Prim.Native.Nat.{ℕ, _+_, _*_, _%_}
+use Prim.Native.Nat.{ℕ, _+_, _*_}
 use mathlib.Core.Bool.{Bool, _&&_, _||_, not, cond}
 use mathlib.Core.List.{List, [], _∷_}
 use lib.ListN.{getD, length}
 use lib.Dec.{leb, eqb}
 use Rattle.number.specs.declared.Range.{Range}
 use Rattle.number.specs.declared.Level.{Level}
-use Rattle.number.specs.Fields.{le32, le64}
+use Rattle.number.specs.Fields.{le64}
 use Rattle.number.specs.Ranges.{inside, placed, twice, part, levelRange}
 use Rattle.number.specs.Blocks.{blocks}
-use Rattle.layout.specs.Limits.{difiSize, ivfcSize, dpfsSize, masterAllowed, leastLog, leastBitsLog, mostLog, wordSize, entrySize}
+use Rattle.limits.specs.Limits.{difiSize, ivfcSize, dpfsSize, masterAllowed, leastLog, leastBitsLog, wordSize, entrySize, sizeAllowed, logAt, levelAllowed}
 use Rattle.layout.specs.Every.{every}
 use Rattle.layout.specs.Magic.{opensWith, difiMagic, ivfcMagic, dpfsMagic}
 use Rattle.layout.specs.Headers.{rangeAt}
@@ -22,10 +22,6 @@ use Rattle.layout.specs.declared.JudgedPartition.{JudgedPartition}
 use Rattle.layout.specs.declared.JudgedPartition.the-variants.{GoodPartition, BadPartition}
 
 -- ---- the fields
-
--- each block-size logarithm has four bytes; the four after it are padding (02, W4)
-abbrev pub logAt : List ℕ → ℕ → ℕ
-logAt s at = le32 s at
 
 -- a level: offset, size, logarithm
 abbrev pub levelAt : List ℕ → ℕ → Level
@@ -68,14 +64,6 @@ partitionFields d = record {
 }
 
 -- ---- the rules of refusal 6
-
--- a level's size is at least 1 and a multiple of the unit
-unfoldable pub sizeAllowed : (unit size : ℕ) → Bool
-sizeAllowed unit size = leb 1 size && eqb (size % unit) 0
-
--- its logarithm is from the least allowed to 16
-unfoldable pub levelAllowed : (unit least : ℕ) → Level → Bool
-levelAllowed unit least l = sizeAllowed unit (l .size) && leb least (l .log) && leb (l .log) mostLog
 
 -- DIFI: the opening bytes, the sizes of the pieces, the selector 0 or 1
 unfoldable pub difiAllowed : List ℕ → Difi → Bool

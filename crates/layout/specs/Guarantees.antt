@@ -10,7 +10,7 @@ use Rattle.number.specs.declared.Level.{Level}
 use Rattle.number.specs.Ranges.{Apart, levelRange, twice, part}
 use Rattle.number.specs.Blocks.{blocks}
 use Rattle.sha256.specs.Sha256.{sha256}
-use Rattle.layout.specs.Limits.{shortestImage, longestImage, tableLimit, difiSize, ivfcSize, dpfsSize, masterAllowed, leastLog, leastBitsLog, mostLog, wordSize, entrySize}
+use Rattle.limits.specs.Limits.{shortestImage, longestImage, tableLimit, difiSize, ivfcSize, dpfsSize, masterAllowed, leastLog, leastBitsLog, mostLog, wordSize, entrySize}
 use Rattle.layout.specs.Magic.{opensWith}
 use Rattle.layout.specs.Headers.{front, headerBytes, hashRange, headerMagic, headerFields}
 use Rattle.layout.specs.Tables.{active}

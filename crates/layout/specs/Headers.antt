@@ -1,13 +1,13 @@
 -- The header, at 0x100; the offsets below are within it.
 use Prim.Native.Nat.{ℕ, _+_}
-use mathlib.Core.Bool.{Bool, _&&_, _||_, cond}
+use mathlib.Core.Bool.{Bool, _&&_, cond}
 use mathlib.Core.List.{List, [], _∷_}
 use lib.ListN.{getD}
-use lib.Dec.{leb, eqb}
+use lib.Dec.{eqb}
 use Rattle.number.specs.declared.Range.{Range}
 use Rattle.number.specs.Fields.{le32, le64}
 use Rattle.number.specs.Ranges.{placed, part}
-use Rattle.layout.specs.Limits.{tableLimit}
+use Rattle.limits.specs.Limits.{countAllowed, flagAllowed, tableAllowed}
 use Rattle.layout.specs.Magic.{opensWith, disaMagic, diffMagic}
 use Rattle.layout.specs.declared.Kind.{Kind}
 use Rattle.layout.specs.declared.Kind.the-variants.{Disa, Diff}
@@ -91,7 +91,7 @@ headerFields Diff s = diffHeader s
 
 -- 3: the count is 1 or 2 and the flag 0 or 1
 unfoldable pub selectionAllowed : Header → Bool
-selectionAllowed h = (eqb (h .count) 1 || eqb (h .count) 2) && leb (h .flag) 1
+selectionAllowed h = countAllowed (h .count) && flagAllowed (h .flag)
 
 -- the partitions and the descriptors that there are: A's, and B's where the count is 2
 abbrev pub partitionRanges : Header → List Range
@@ -104,7 +104,7 @@ descriptorRanges h = cond (eqb (h .count) 2) (h .a .descriptor ∷ h .b .descrip
 -- disjoint; the table keeps to its limit; every size is at least 1
 unfoldable pub geometryAllowed : (length : ℕ) → Header → Bool
 geometryAllowed length h =
-    leb (h .primary .size) tableLimit
+    tableAllowed (h .primary .size)
     && placed length (front ∷ h .secondary ∷ h .primary ∷ partitionRanges h)
     && placed (h .primary .size) (descriptorRanges h)
 

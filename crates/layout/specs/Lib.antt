@@ -1,4 +1,3 @@
-pub mod Limits
 pub mod Every
 pub mod Magic
 pub mod Headers

@@ -1,12 +1,12 @@
 -- What opening an image answers, of its length, its header's bytes and its active table's bytes. The checks come in the order 1 to 5,
 -- A's 6 then 7, B's 6 then 7; the first that fails decides the answer.
 use Prim.Native.Nat.{ℕ}
-use mathlib.Core.Bool.{Bool, _&&_, cond}
+use mathlib.Core.Bool.{cond}
 use mathlib.Core.List.{List}
 use lib.ListN.{length}
-use lib.Dec.{leb, eqb}
+use lib.Dec.{eqb}
 use Rattle.number.specs.Ranges.{part}
-use Rattle.layout.specs.Limits.{shortestImage, longestImage}
+use Rattle.limits.specs.Limits.{lengthAllowed}
 use Rattle.layout.specs.Headers.{headerBytes, judgedHeader}
 use Rattle.layout.specs.Tables.{active, tableMatches}
 use Rattle.layout.specs.Descriptors.{judgedPartition}
@@ -21,10 +21,6 @@ use Rattle.layout.specs.declared.JudgedPartition.{JudgedPartition}
 use Rattle.layout.specs.declared.JudgedPartition.the-variants.{GoodPartition, BadPartition}
 use Rattle.layout.specs.declared.Opened.{Opened}
 use Rattle.layout.specs.declared.Opened.the-variants.{Valid, Refused}
-
--- 1: the length is 0x200 to 0x4000000
-unfoldable pub lengthAllowed : ℕ → Bool
-lengthAllowed n = leb shortestImage n && leb n longestImage
 
 -- a partition, judged by its descriptor in the active table
 abbrev pub judgedSlot : (table : List ℕ) → Slot → JudgedPartition

@@ -7,11 +7,14 @@ use super::Partition;
 use super::Refusal;
 use super::headers::range_at;
 use super::magic::opens_with;
+use limits::level_allowed;
+use limits::log_at;
+use limits::master_allowed;
+use limits::size_allowed;
 use number::Level;
 use number::Range;
 use number::blocks::block_count;
 use number::fields::byte;
-use number::fields::field4;
 use number::fields::field8;
 use number::ranges::four_placed;
 use number::ranges::lies_inside;
@@ -25,8 +28,7 @@ ghost use mathlib.Core.List.{[], _∷_};
 ghost use Prim.Native.Nat.{_+_, _<_, _^_};
 ghost use Rattle.number.specs.Fields.{le64};
 ghost use Rattle.number.specs.Ranges.{placed, levelRange, twice};
-ghost use Rattle.layout.specs.Limits.{masterAllowed};
-ghost use Rattle.layout.specs.Descriptors.{logAt, levelAt, difiFields, ivfcFields, dpfsFields, partitionFields, sizeAllowed, levelAllowed, difiAllowed, ivfcAllowed, dpfsAllowed, formAllowed, piecesPlaced, levelsPlaced, enoughBits, enoughEntries, allEnough, placesAllowed, judgedPartition};
+ghost use Rattle.layout.specs.Descriptors.{levelAt, difiFields, ivfcFields, dpfsFields, partitionFields, difiAllowed, ivfcAllowed, dpfsAllowed, formAllowed, piecesPlaced, levelsPlaced, enoughBits, enoughEntries, allEnough, placesAllowed, judgedPartition};
 
 const DIFI_SIZE: u64 = 0x44;
 
@@ -34,25 +36,13 @@ const IVFC_SIZE: u64 = 0x78;
 
 const DPFS_SIZE: u64 = 0x50;
 
-const MOST_ENTRIES: u64 = 64;
-
 const LEAST_LOG: u64 = 5;
 
 const LEAST_BITS_LOG: u64 = 2;
 
-const MOST_LOG: u64 = 16;
-
 const WORD_SIZE: u64 = 4;
 
 const ENTRY_SIZE: u64 = 32;
-
-// A block-size logarithm: four bytes. The four after them are padding.
-fn log_at(s: &[u8], at: usize) -> u64
-    requires { ⌜ at + 8 < 2 ^ 64 ⌝ }
-    ensures { λ r. ⌜ r ≡ logAt (now (s .entry)) at ⌝ }
-{
-    field4(s, at) as u64
-}
 
 // Offset, size and logarithm of a level.
 fn level_at(s: &[u8], at: usize) -> Level
@@ -120,28 +110,6 @@ fn read_partition(d: &[u8]) -> Partition
     let ivfc = read_ivfc(difi.external, part_of(d, difi.ivfc));
     let dpfs = read_dpfs(part_of(d, difi.dpfs));
     Partition { difi, ivfc, dpfs }
-}
-
-// A level's size: at least 1, and a multiple of the unit.
-fn size_allowed(unit: u64, size: u64) -> bool
-    requires { ⌜ 0 < unit ⌝ }
-    ensures { λ r. ⌜ r ≡ sizeAllowed unit size ⌝ }
-{
-    (1 <= size) & (size % unit == 0)
-}
-
-fn level_allowed(unit: u64, least: u64, l: Level) -> bool
-    requires { ⌜ 0 < unit ⌝ }
-    ensures { λ r. ⌜ r ≡ levelAllowed unit least l ⌝ }
-{
-    size_allowed(unit, l.size) & (least <= l.log) & (l.log <= MOST_LOG)
-}
-
-// A master hash has 1 to 64 entries.
-fn master_allowed(size: u64) -> bool
-    ensures { λ r. ⌜ r ≡ masterAllowed size ⌝ }
-{
-    (ENTRY_SIZE <= size) & (size <= MOST_ENTRIES * ENTRY_SIZE) & (size % ENTRY_SIZE == 0)
 }
 
 fn difi_allowed(d: &[u8], difi: Difi) -> bool

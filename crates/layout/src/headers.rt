@@ -7,6 +7,9 @@ use super::Kind;
 use super::Refusal;
 use super::Slot;
 use super::magic::opens_as;
+use limits::count_allowed;
+use limits::flag_allowed;
+use limits::table_allowed;
 use number::Range;
 use number::fields::byte;
 use number::fields::field4;
@@ -25,9 +28,6 @@ ghost use Rattle.layout.specs.Headers.{headerBytes, rangeAt, noSlot, slo
 pub(crate) const DISA_FLAG: usize = 0x68;
 
 pub(crate) const DIFF_FLAG: usize = 0x30;
-
-// The most bytes that a table may have.
-const TABLE_LIMIT: u64 = 0x2000;
 
 // The header's bytes.
 pub fn header_of(image: &[u8]) -> [u8; 256]
@@ -126,7 +126,7 @@ fn diff_header(head: &[u8]) -> Header
 fn selection_allowed(h: Header) -> bool
     ensures { λ r. ⌜ r ≡ selectionAllowed h ⌝ }
 {
-    ((h.count == 1) | (h.count == 2)) & (h.flag <= 1)
+    count_allowed(h.count) & flag_allowed(h.flag)
 }
 
 // 4: the first 0x200 bytes, both tables and the partitions in the image, the descriptors in the table.
@@ -141,7 +141,7 @@ fn geometry_allowed(length: u64, h: Header) -> bool
     let primary = h.primary;
     let a = h.a;
     let b = h.b;
-    let small = primary.size <= TABLE_LIMIT;
+    let small = table_allowed(primary.size);
     if h.count == 2 {
         small
             & five_placed(length, front, secondary, primary, a.partition, b.partition)

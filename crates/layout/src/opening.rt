@@ -14,20 +14,10 @@ use super::descriptors::judge_partition;
 use super::headers::judge_header;
 use super::tables::active_table;
 use super::tables::table_matches;
+use limits::length_allowed;
 use number::ranges::part_of;
 ghost use mathlib.Core.Path.{_≡_};
-ghost use Rattle.layout.specs.Opening.{lengthAllowed, judgedSlot, afterA, afterTable, opened};
-
-const SHORTEST_IMAGE: u64 = FRONT as u64;
-
-const LONGEST_IMAGE: u64 = 0x400_0000;
-
-// 1: both limits are allowed lengths.
-pub fn length_allowed(n: u64) -> bool
-    ensures { λ r. ⌜ r ≡ lengthAllowed n ⌝ }
-{
-    (SHORTEST_IMAGE <= n) & (n <= LONGEST_IMAGE)
-}
+ghost use Rattle.layout.specs.Opening.{judgedSlot, afterA, afterTable, opened};
 
 // A partition, judged by its descriptor in the active table.
 fn judge_slot(table: &[u8], slot: Slot) -> JudgedPartition

@@ -22,8 +22,8 @@ use Rattle.layout.specs.declared.Kind.the-variants.{Disa, Diff}
 use Rattle.layout.specs.declared.Container.{Container}
 use Rattle.layout.specs.Magic.{opensWith}
 use Rattle.layout.specs.Headers.{headerBytes, headerMagic}
-use Rattle.layout.specs.Limits.{longestImage}
-use Rattle.layout.specs.Opening.{opened, lengthAllowed}
+use Rattle.limits.specs.Limits.{longestImage, lengthAllowed}
+use Rattle.layout.specs.Opening.{opened}
 use Rattle.layout.specs.Guarantees.{Guarantees}
 use Rattle.layout.proofs.HeaderLaws.{one-kind}
 use Rattle.signing.specs.declared.Signer.{Signer}

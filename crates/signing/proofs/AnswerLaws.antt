@@ -16,7 +16,7 @@ use Rattle.layout.specs.declared.Refusal.{Refusal}
 use Rattle.layout.specs.declared.Refusal.the-variants.{Length, Format, SignerKind}
 use Rattle.layout.specs.Magic.{opensWith}
 use Rattle.layout.specs.Headers.{headerBytes, headerMagic}
-use Rattle.layout.specs.Opening.{lengthAllowed}
+use Rattle.limits.specs.Limits.{lengthAllowed}
 use Rattle.sha256.specs.Sha256.{sha256}
 use Rattle.signing.specs.declared.Built.the-variants as built
 use Rattle.signing.specs.declared.Signer.{Signer}

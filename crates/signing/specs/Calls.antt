@@ -13,7 +13,7 @@ use Rattle.layout.specs.declared.Refusal.{Refusal}
 use Rattle.layout.specs.declared.Refusal.the-variants.{Length, Format, SignerKind}
 use Rattle.layout.specs.Magic.{opensWith}
 use Rattle.layout.specs.Headers.{headerBytes, headerMagic}
-use Rattle.layout.specs.Opening.{lengthAllowed}
+use Rattle.limits.specs.Limits.{lengthAllowed}
 use Rattle.signing.specs.declared.Signer.{Signer}
 use Rattle.signing.specs.declared.Built.{Built}
 use Rattle.signing.specs.declared.Built.the-variants as built

@@ -7,7 +7,7 @@ use layout::Kind;
 use layout::Outcome;
 use layout::Refusal;
 use layout::magic::opens_as;
-use layout::opening::length_allowed;
+use limits::length_allowed;
 ghost use mathlib.Core.Path.{_≡_};
 ghost use mathlib.Core.List.{List};
 ghost use Prim.Native.Nat.{ℕ};

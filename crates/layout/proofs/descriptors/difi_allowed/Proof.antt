@@ -1,7 +1,7 @@
 -- `layout::descriptors::difi_allowed` meets its contract. Assumes nothing.
 use mathlib.Core.Bool.{_&&_}
 use lib.Dec.{leb, eqb}
-use Rattle.layout.specs.Limits.{ivfcSize, dpfsSize}
+use Rattle.limits.specs.Limits.{ivfcSize, dpfsSize}
 use borrow.Author.Needs.{needs}
 use Rattle.layout.specs.Every.{every, onto}
 use Rattle.layout.specs.Descriptors.{difiAllowed}

@@ -4,7 +4,8 @@ use borrow.Author.Tests.{leb-true}
 use borrow.Author.Needs.{needs}
 use Rattle.number.specs.Ranges.{part}
 use Rattle.number.proofs.Tests.{failed, passed, and-left}
-use Rattle.layout.specs.Opening.{lengthAllowed, opened}
+use Rattle.layout.specs.Opening.{opened}
+use Rattle.limits.specs.Limits.{lengthAllowed}
 use Rattle.layout.proofs.HeaderLaws.{header-checked}
 use Rattle.layout.proofs.opening.open.Statement.{statement}
 use Rattle.layout.proofs.opening.open.Tie as tie

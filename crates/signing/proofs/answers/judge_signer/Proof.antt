@@ -4,7 +4,7 @@ use borrow.Author.Tests.{leb-true}
 use borrow.Author.Needs.{needs}
 use Rattle.number.specs.Ranges.{part}
 use Rattle.number.proofs.Tests.{failed, passed, and-left}
-use Rattle.layout.specs.Opening.{lengthAllowed}
+use Rattle.limits.specs.Limits.{lengthAllowed}
 use Rattle.signing.proofs.AnswerLaws.{length-refused, disa-judged, diff-judged, neither-refused}
 use Rattle.signing.proofs.answers.judge_signer.Statement.{statement}
 use Rattle.signing.proofs.answers.judge_signer.Tie as tie

@@ -1,9 +1,9 @@
--- `layout::descriptors::size_allowed` meets its contract. Assumes nothing.
+-- `limits::size_allowed` meets its contract. Assumes nothing.
 use mathlib.Core.Path.{refl}
 use borrow.Author.Needs.{needs}
-use Rattle.layout.specs.Descriptors.{sizeAllowed}
-use Rattle.layout.proofs.descriptors.size_allowed.Statement.{statement}
-use Rattle.layout.proofs.descriptors.size_allowed.Tie as tie
+use Rattle.limits.specs.Limits.{sizeAllowed}
+use Rattle.limits.proofs.size_allowed.Statement.{statement}
+use Rattle.limits.proofs.size_allowed.Tie as tie
 
 rem-result : tie.Need-rem-result
 rem-result c = search needs

@@ -1,8 +1,8 @@
--- `layout::descriptors::level_allowed` meets its contract. Assumes nothing.
+-- `limits::level_allowed` meets its contract. Assumes nothing.
 use borrow.Author.Needs.{needs}
-use Rattle.layout.specs.Descriptors.{levelAllowed}
-use Rattle.layout.proofs.descriptors.level_allowed.Statement.{statement}
-use Rattle.layout.proofs.descriptors.level_allowed.Tie as tie
+use Rattle.limits.specs.Limits.{levelAllowed}
+use Rattle.limits.proofs.level_allowed.Statement.{statement}
+use Rattle.limits.proofs.level_allowed.Tie as tie
 
 size-allowed-requires : tie.Need-size-allowed-requires
 size-allowed-requires c κs = search needs
