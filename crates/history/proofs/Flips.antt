@@ -1,7 +1,7 @@
 -- What a commit does to opening's fields: a descriptor that differs from a good one in its selector and its master hash is good too, and so
 -- is a header that differs in its flag and its hash. Assumes nothing.
 use mathlib.Core.Path.{_≡_, refl, sym, ap, _∙_, subst}
-use mathlib.Core.Bool.{Bool, true, false, not, _||_, cond}
+use mathlib.Core.Bool.{Bool, true, false, not, _&&_, _||_, cond}
 use mathlib.Core.List.{List, [], _∷_}
 use mathlib.Core.Logic.{inl, inr}
 use Prim.Native.Nat.{ℕ, _+_, _-_, _≤_, _<_}
@@ -24,10 +24,10 @@ use Rattle.layout.specs.declared.Partition.{Partition}
 use Rattle.layout.specs.declared.JudgedHeader.the-variants.{GoodHeader, BadHeader}
 use Rattle.layout.specs.declared.Refusal.the-variants.{Format, Selection, Geometry}
 use Rattle.layout.specs.declared.JudgedPartition.the-variants.{GoodPartition}
-use Rattle.limits.specs.Limits.{difiSize, ivfcSize, dpfsSize, masterAllowed}
+use Rattle.limits.specs.Limits.{difiSize, ivfcSize, dpfsSize, masterAllowed, countAllowed, flagAllowed}
 use Rattle.layout.specs.Every.{every}
 use Rattle.layout.specs.Magic.{opensWith, disaMagic, diffMagic, difiMagic}
-use Rattle.layout.specs.Headers.{flagOffset, hashRange, rangeAt, noSlot, slotB, disaHeader, diffHeader, headerMagic, headerFields, selectionAllowed, geometryAllowed, judgedFields, judgedHeader}
+use Rattle.layout.specs.Headers.{flagOffset, hashRange, rangeAt, noSlot, unused, disaHeader, diffHeader, headerMagic, headerFields, selectionAllowed, geometryAllowed, judgedFields, judgedHeader}
 use Rattle.layout.specs.Descriptors.{difiFields, ivfcFields, dpfsFields, partitionFields, difiAllowed, ivfcAllowed, dpfsAllowed, readable, formAllowed, piecesPlaced, levelsPlaced, allEnough, placesAllowed, judgedPartition}
 use Rattle.layout.specs.Guarantees.{PartitionGuarantees}
 use Rattle.layout.proofs.HeaderLaws.{HeaderChecks}
@@ -243,7 +243,7 @@ module _ (kind : Kind) (flag : ℕ) (hash s : List ℕ) (n : length s ≡ 256) (
 
 disa-fields : (flag : ℕ) (hash s : List ℕ) → length s ≡ 256 → length hash ≡ 32 → flag ≡ 1 - disaHeader s .flag
     → disaHeader (reheaded Disa flag hash s) ≡ headerFlipped (disaHeader s)
-unfolding disaHeader slotB
+unfolding disaHeader
 disa-fields flag hash s n m e =
     let t = reheaded Disa flag hash s in
     let same : (j : ℕ) → 0 ≤ j → j < 0x68 → getD t j 0 ≡ getD s j 0 = below-flag Disa flag hash s n m in
@@ -263,7 +263,7 @@ disa-fields flag hash s n m e =
       secondary = record { offset = second i; size = size i };
       primary = record { offset = first i; size = size i };
       a = record { descriptor = da i; partition = pa i };
-      b = cond (eqb (count i) 2) (record { descriptor = db i; partition = pb i }) noSlot;
+      b = record { descriptor = db i; partition = pb i };
     }
 
 -- of a flag of four bytes that is 0 or 1 the upper three are 0
@@ -306,15 +306,20 @@ diff-not-disa s e =
     ap (λ (x : List ℕ). sameBytes x disaMagic) (same-is (part s (record { offset = 0; size = 8 })) diffMagic e)
 
 module _ (n : ℕ) (s hash : List ℕ) (h : Header) (size : length s ≡ 256) (digest : length hash ≡ 32) (k : HeaderChecks n s h) where
-  small : h .flag ≤ 1
+  both : countAllowed (h .count) && flagAllowed (h .flag) ≡ true
   unfolding selectionAllowed
-  small = leb-true (h .flag) 1 (and-right (eqb (h .count) 1 || eqb (h .count) 2) (leb (h .flag) 1) (k .selection))
+  both = and-left (countAllowed (h .count) && flagAllowed (h .flag)) _ (k .selection)
+
+  small : h .flag ≤ 1
+  small = leb-true (h .flag) 1 (and-right (countAllowed (h .count)) (flagAllowed (h .flag)) both)
 
   flipped-selection : selectionAllowed (headerFlipped h) ≡ true
   unfolding selectionAllowed
   flipped-selection =
-      and-both (eqb (h .count) 1 || eqb (h .count) 2) (leb (1 - h .flag) 1)
-      (and-left (eqb (h .count) 1 || eqb (h .count) 2) (leb (h .flag) 1) (k .selection)) (le-leb (1 - h .flag) 1 (omega arith))
+      and-both (countAllowed (h .count) && flagAllowed (1 - h .flag)) (eqb (h .count) 2 || unused (h .b))
+      (and-both (countAllowed (h .count)) (flagAllowed (1 - h .flag)) (and-left (countAllowed (h .count)) (flagAllowed (h .flag)) both)
+      (le-leb (1 - h .flag) 1 (omega arith)))
+      (and-right (countAllowed (h .count) && flagAllowed (h .flag)) _ (k .selection))
 
   flipped-geometry : geometryAllowed n (headerFlipped h) ≡ true
   unfolding geometryAllowed

@@ -7,7 +7,7 @@ use mathlib.Core.Path.{_≡_, refl, sym, ap, _∙_}
 use native.Mathlib.Omega.{arith}
 use native.Mathlib.Decide.{ℕ-discrete}
 use lib.Dec.{leb, eqb}
-use borrow.Author.Tests.{leb-true, eqb-true, eq-eqb}
+use borrow.Author.Tests.{leb-true, eqb-true, eq-eqb, ne-eqb}
 use Rattle.number.specs.declared.Range.{Range}
 use Rattle.number.specs.Ranges.{placed, part}
 use Rattle.number.specs.Bytes.{sameBytes}
@@ -16,9 +16,9 @@ use lib.ListN.{length, take, drop}
 use lib.Seq.{sets}
 use Rattle.number.proofs.ListLaws.{same-is, length-part, sets-whole}
 use Rattle.number.proofs.RangeLaws.{placed-rest, placed-fits, fits-ends, Laid, laid, past-first}
-use Rattle.limits.specs.Limits.{tableLimit}
+use Rattle.limits.specs.Limits.{countAllowed, flagAllowed, zeros, tableLimit}
 use Rattle.layout.specs.Magic.{opensWith, disaMagic, diffMagic}
-use Rattle.layout.specs.Headers.{front, headerBytes, partitionRanges, descriptorRanges, headerMagic, headerFields, disaHeader, diffHeader, selectionAllowed, geometryAllowed, judgedFields, judgedHeader}
+use Rattle.layout.specs.Headers.{front, headerBytes, noRange, noSlot, unused, partitionRanges, descriptorRanges, headerMagic, headerFields, disaHeader, diffHeader, selectionAllowed, geometryAllowed, judgedFields, judgedHeader}
 use Rattle.layout.specs.Guarantees.{SlotGuarantees, HeaderGuarantees}
 use Rattle.layout.specs.declared.Kind.{Kind}
 use Rattle.layout.specs.declared.Kind.the-variants.{Disa, Diff}
@@ -130,7 +130,7 @@ module _ (h : Header) where
 
   pub count-allowed : selectionAllowed h ≡ true → (h .count ≡ 1) ⊎ (h .count ≡ 2)
   unfolding selectionAllowed
-  count-allowed e = go (eqb (h .count) 1) refl (and-left (eqb (h .count) 1 || eqb (h .count) 2) _ e)
+  count-allowed e = go (eqb (h .count) 1) refl (and-left (countAllowed (h .count)) (flagAllowed (h .flag)) (and-left (countAllowed (h .count) && flagAllowed (h .flag)) _ e))
     where
       go : (t : Bool) → eqb (h .count) 1 ≡ t → t || eqb (h .count) 2 ≡ true → (h .count ≡ 1) ⊎ (h .count ≡ 2)
       go true p e = inl (eqb-true _ _ p)
@@ -138,7 +138,8 @@ module _ (h : Header) where
 
   pub flag-allowed : selectionAllowed h ≡ true → (h .flag ≡ 0) ⊎ (h .flag ≡ 1)
   unfolding selectionAllowed
-  flag-allowed e = go (leb-true (h .flag) 1 (and-right (eqb (h .count) 1 || eqb (h .count) 2) _ e)) (ℕ-discrete (h .flag) 0)
+  flag-allowed e =
+      go (leb-true (h .flag) 1 (and-right (countAllowed (h .count)) (flagAllowed (h .flag)) (and-left (countAllowed (h .count) && flagAllowed (h .flag)) _ e))) (ℕ-discrete (h .flag) 0)
     where
       go : h .flag ≤ 1 → Dec (h .flag ≡ 0) → (h .flag ≡ 0) ⊎ (h .flag ≡ 1)
       go l (yes p) = inl p
@@ -185,6 +186,25 @@ module _ (length : ℕ) (h : Header) where
     a-allowed true p = slot-a length h (h .b .partition ∷ []) (h .b .descriptor ∷ []) (laid-by true p) (described-by true p)
     a-allowed false p = slot-a length h [] [] (laid-by false p) (described-by false p)
 
+-- ranges of which no field is set
+both-zero : (a b : Range) → zeros a b ≡ true → (a ≡ noRange) × (b ≡ noRange)
+both-zero a b e =
+    let three = and-left (eqb (a .offset) 0 && eqb (a .size) 0 && eqb (b .offset) 0) (eqb (b .size) 0) e in
+    let two = and-left (eqb (a .offset) 0 && eqb (a .size) 0) (eqb (b .offset) 0) three in
+    let p = eqb-true (a .offset) 0 (and-left (eqb (a .offset) 0) (eqb (a .size) 0) two) in
+    let q = eqb-true (a .size) 0 (and-right (eqb (a .offset) 0) (eqb (a .size) 0) two) in
+    let r = eqb-true (b .offset) 0 (and-right (eqb (a .offset) 0 && eqb (a .size) 0) (eqb (b .offset) 0) three) in
+    let s = eqb-true (b .size) 0 (and-right (eqb (a .offset) 0 && eqb (a .size) 0 && eqb (b .offset) 0) (eqb (b .size) 0) e) in
+    ((λ i. record { offset = p i; size = q i }), (λ i. record { offset = r i; size = s i }))
+
+-- where there is no B its fields are zero
+no-second : (h : Header) → selectionAllowed h ≡ true → h .count ≡ 1 → h .b ≡ noSlot
+unfolding selectionAllowed
+no-second h e one =
+    let u : eqb (h .count) 2 || unused (h .b) ≡ true = and-right (countAllowed (h .count) && flagAllowed (h .flag)) _ e in
+    let z = both-zero (h .b .descriptor) (h .b .partition) (ap (λ (t : Bool). t || unused (h .b)) (sym (ne-eqb (h .count) 2 (λ two. omega arith))) ∙ u) in
+    λ i. record { descriptor = z .0 i; partition = z .1 i }
+
 pub header-guarantees : (length : ℕ) (header : List ℕ) (h : Header) → HeaderChecks length header h → HeaderGuarantees length h
 header-guarantees length header h k =
     let g = k .geometry in
@@ -202,6 +222,7 @@ header-guarantees length header h k =
       tablesApart = l .1 .0 .apart .0;
       a = a-allowed length h g (eqb (h .count) 2) refl;
       b = λ two. slot-b length h (laid-by length h g true (eq-eqb (h .count) 2 two)) (described-by length h g true (eq-eqb (h .count) 2 two));
+      unused = no-second h (k .selection);
       partitionsApart = λ two. laid-by length h g true (eq-eqb (h .count) 2 two) .1 .1 .1 .0 .apart .0;
       descriptorsApart = λ two. described-by length h g true (eq-eqb (h .count) 2 two) .0 .apart .0;
     }

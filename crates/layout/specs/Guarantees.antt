@@ -12,7 +12,7 @@ use Rattle.number.specs.Blocks.{blocks}
 use Rattle.sha256.specs.Sha256.{sha256}
 use Rattle.limits.specs.Limits.{shortestImage, longestImage, tableLimit, difiSize, ivfcSize, dpfsSize, masterAllowed, leastLog, leastBitsLog, mostLog, wordSize, entrySize}
 use Rattle.layout.specs.Magic.{opensWith}
-use Rattle.layout.specs.Headers.{front, headerBytes, hashRange, headerMagic, headerFields}
+use Rattle.layout.specs.Headers.{front, headerBytes, noSlot, hashRange, headerMagic, headerFields}
 use Rattle.layout.specs.Tables.{active}
 use Rattle.layout.specs.Descriptors.{partitionFields, externalRange}
 use Rattle.layout.specs.declared.Header.{Header}
@@ -48,6 +48,7 @@ pub record HeaderGuarantees (length : ℕ) (h : Header) : Type 0 where
   pub tablesApart : Apart (h .secondary) (h .primary)
   pub a : SlotGuarantees length h (h .a)
   pub b : h .count ≡ 2 → SlotGuarantees length h (h .b)
+  pub unused : h .count ≡ 1 → h .b ≡ noSlot
   pub partitionsApart : h .count ≡ 2 → Apart (h .a .partition) (h .b .partition)
   pub descriptorsApart : h .count ≡ 2 → Apart (h .a .descriptor) (h .b .descriptor)
 

@@ -1,13 +1,13 @@
 -- The header, at 0x100; the offsets below are within it.
 use Prim.Native.Nat.{ℕ, _+_}
-use mathlib.Core.Bool.{Bool, _&&_, cond}
+use mathlib.Core.Bool.{Bool, _&&_, _||_, cond}
 use mathlib.Core.List.{List, [], _∷_}
 use lib.ListN.{getD}
 use lib.Dec.{eqb}
 use Rattle.number.specs.declared.Range.{Range}
 use Rattle.number.specs.Fields.{le32, le64}
 use Rattle.number.specs.Ranges.{placed, part}
-use Rattle.limits.specs.Limits.{countAllowed, flagAllowed, tableAllowed}
+use Rattle.limits.specs.Limits.{countAllowed, flagAllowed, zeros, tableAllowed}
 use Rattle.layout.specs.Magic.{opensWith, disaMagic, diffMagic}
 use Rattle.layout.specs.declared.Kind.{Kind}
 use Rattle.layout.specs.declared.Kind.the-variants.{Disa, Diff}
@@ -50,10 +50,6 @@ abbrev pub hashRange : Kind → Range
 hashRange Disa = record { offset = 0x6C; size = 32 }
 hashRange Diff = record { offset = 0x34; size = 32 }
 
--- DISA: B's fields are not read when the count is 1
-unfoldable pub slotB : List ℕ → (count : ℕ) → Slot
-slotB s count = cond (eqb count 2) (record { descriptor = rangeAt s 0x38; partition = rangeAt s 0x58 }) noSlot
-
 -- DISA: the partition count has 4 bytes, the active flag 1
 unfoldable pub disaHeader : List ℕ → Header
 disaHeader s = record {
@@ -63,7 +59,7 @@ disaHeader s = record {
   secondary = record { offset = le64 s 0x10; size = le64 s 0x20 };
   primary = record { offset = le64 s 0x18; size = le64 s 0x20 };
   a = record { descriptor = rangeAt s 0x28; partition = rangeAt s 0x48 };
-  b = slotB s (le32 s 0x08);
+  b = record { descriptor = rangeAt s 0x38; partition = rangeAt s 0x58 };
 }
 
 -- DIFF: the count is always 1, the active flag has 4 bytes, and A's descriptor is the whole table
@@ -89,9 +85,13 @@ headerFields Diff s = diffHeader s
 
 -- ---- the rules
 
--- 3: the count is 1 or 2 and the flag 0 or 1
+-- all four of a partition's fields are zero
+abbrev pub unused : Slot → Bool
+unused slot = zeros (slot .descriptor) (slot .partition)
+
+-- 3: the count is 1 or 2, the flag 0 or 1, and where there is no B all B fields are zero (02, W6); DIFF has none
 unfoldable pub selectionAllowed : Header → Bool
-selectionAllowed h = countAllowed (h .count) && flagAllowed (h .flag)
+selectionAllowed h = countAllowed (h .count) && flagAllowed (h .flag) && (eqb (h .count) 2 || unused (h .b))
 
 -- the partitions and the descriptors that there are: A's, and B's where the count is 2
 abbrev pub partitionRanges : Header → List Range

@@ -7,6 +7,7 @@ use super::Kind;
 use super::Refusal;
 use super::Slot;
 use super::magic::opens_as;
+use limits::are_zero;
 use limits::count_allowed;
 use limits::flag_allowed;
 use limits::table_allowed;
@@ -22,7 +23,7 @@ use number::runs::copy_into;
 ghost use mathlib.Core.Path.{_≡_};
 ghost use Prim.Native.Nat.{_+_, _<_, _≤_, _^_};
 ghost use lib.ListN.{length};
-ghost use Rattle.layout.specs.Headers.{headerBytes, rangeAt, noSlot, slotB, disaHeader, diffHeader, selectionAllowed, geometryAllowed, judgedFields, judgedHeader};
+ghost use Rattle.layout.specs.Headers.{headerBytes, rangeAt, noSlot, disaHeader, diffHeader, selectionAllowed, geometryAllowed, judgedFields, judgedHeader};
 
 // Where the active flag stands in a header of either kind.
 pub(crate) const DISA_FLAG: usize = 0x68;
@@ -59,20 +60,6 @@ fn no_slot() -> Slot
     }
 }
 
-// DISA's fields of partition B, which are not read when the count is 1.
-fn slot_b(head: &[u8], count: u32) -> Slot
-    ensures { λ r. ⌜ r ≡ slotB (now (head .entry)) count ⌝ }
-{
-    if count == 2 {
-        Slot {
-            descriptor: range_at(head, 0x38),
-            partition: range_at(head, 0x58),
-        }
-    } else {
-        no_slot()
-    }
-}
-
 fn disa_header(head: &[u8]) -> Header
     ensures { λ r. ⌜ r ≡ disaHeader (now (head .entry)) ⌝ }
 {
@@ -94,7 +81,10 @@ fn disa_header(head: &[u8]) -> Header
             descriptor: range_at(head, 0x28),
             partition: range_at(head, 0x48),
         },
-        b: slot_b(head, count),
+        b: Slot {
+            descriptor: range_at(head, 0x38),
+            partition: range_at(head, 0x58),
+        },
     }
 }
 
@@ -102,6 +92,11 @@ fn diff_header(head: &[u8]) -> Header
     ensures { λ r. ⌜ r ≡ diffHeader (now (head .entry)) ⌝ }
 {
     let size = field8(head, 0x18);
+    let own = Slot {
+        descriptor: Range { offset: 0, size },
+        partition: range_at(head, 0x20),
+    };
+    let none = no_slot();
     Header {
         kind: Kind::Diff,
         count: 1,
@@ -114,19 +109,18 @@ fn diff_header(head: &[u8]) -> Header
             offset: field8(head, 0x10),
             size,
         },
-        a: Slot {
-            descriptor: Range { offset: 0, size },
-            partition: range_at(head, 0x20),
-        },
-        b: no_slot(),
+        a: own,
+        b: none,
     }
 }
 
-// 3: the partition count and the flag.
+// 3: the partition count, the flag, and fields of a B that is not there.
 fn selection_allowed(h: Header) -> bool
     ensures { λ r. ⌜ r ≡ selectionAllowed h ⌝ }
 {
-    count_allowed(h.count) & flag_allowed(h.flag)
+    let b = h.b;
+    let unused = are_zero(b.descriptor, b.partition);
+    count_allowed(h.count) & flag_allowed(h.flag) & ((h.count == 2) | unused)
 }
 
 // 4: the first 0x200 bytes, both tables and the partitions in the image, the descriptors in the table.

@@ -3,6 +3,7 @@ use Prim.Native.Nat.{ℕ, _*_, _%_}
 use mathlib.Core.Bool.{Bool, _&&_, _||_}
 use mathlib.Core.List.{List}
 use lib.Dec.{leb, eqb}
+use Rattle.number.specs.declared.Range.{Range}
 use Rattle.number.specs.declared.Level.{Level}
 use Rattle.number.specs.Fields.{le32}
 
@@ -25,6 +26,10 @@ countAllowed count = eqb count 1 || eqb count 2
 
 abbrev pub flagAllowed : (flag : ℕ) → Bool
 flagAllowed flag = leb flag 1
+
+-- 3: two ranges of which no field is set
+abbrev pub zeros : Range → Range → Bool
+zeros a b = eqb (a .offset) 0 && eqb (a .size) 0 && eqb (b .offset) 0 && eqb (b .size) 0
 
 -- 4: a partition table has at most 0x2000 bytes (02, W2)
 abbrev pub tableLimit : ℕ

@@ -1,9 +1,10 @@
 // Numbers an image must keep to, and the rules on them: each on plain numbers, whatever it is that has them.
 use number::Level;
+use number::Range;
 use number::fields::field4;
 ghost use mathlib.Core.Path.{_≡_};
 ghost use Prim.Native.Nat.{_+_, _<_, _^_};
-ghost use Rattle.limits.specs.Limits.{lengthAllowed, countAllowed, flagAllowed, tableAllowed, sizeAllowed, masterAllowed, logAt, levelAllowed};
+ghost use Rattle.limits.specs.Limits.{lengthAllowed, countAllowed, flagAllowed, zeros, tableAllowed, sizeAllowed, masterAllowed, logAt, levelAllowed};
 
 const SHORTEST_IMAGE: u64 = 0x200;
 
@@ -36,6 +37,13 @@ pub fn flag_allowed(flag: u32) -> bool
     ensures { λ r. ⌜ r ≡ flagAllowed flag ⌝ }
 {
     flag <= 1
+}
+
+// 3: no field of two ranges is set.
+pub fn are_zero(a: Range, b: Range) -> bool
+    ensures { λ r. ⌜ r ≡ zeros a b ⌝ }
+{
+    (a.offset == 0) & (a.size == 0) & (b.offset == 0) & (b.size == 0)
 }
 
 // 4: a table's size.

@@ -17,7 +17,6 @@ use Rattle.layout.specs.declared.Partition.{Partition}
 use Rattle.layout.specs.declared.Second.{Second}
 use Rattle.layout.specs.declared.Second.the-variants.{Missing, There}
 use Rattle.layout.specs.declared.Container.{Container}
-use Rattle.layout.specs.Headers.{headerBytes, headerFields, slotB, disaHeader, diffHeader, noSlot}
 use Rattle.layout.specs.Tables.{active, inactive}
 use Rattle.layout.specs.Descriptors.{difiFields, partitionFields}
 use Rattle.layout.specs.Guarantees.{SlotGuarantees, PartitionGuarantees, Described, SecondGuarantees, Guarantees}
@@ -66,14 +65,6 @@ places-fit image c g q k =
           (inactive (c .header)) (inactive-table image c g);
     }
 
--- where there is no B its place in the header is not read either
-unread-second : (kind : Kind) (s : List ℕ) (h : Header) → h ≡ headerFields kind s → h .count ≡ 1 → h .b ≡ noSlot
-unfolding disaHeader diffHeader slotB
-unread-second Disa s h e one =
-    let count : le32 s 0x08 ≡ 1 = sym (ap (λ (x : Header). x .count) e) ∙ one in
-    ap (λ (x : Header). x .b) e ∙ rw (ne-eqb (le32 s 0x08) 2 (λ two. omega arith))
-unread-second Diff s h e one = ap (λ (x : Header). x .b) e
-
 pub space-fits : (image : List ℕ) (c : Container) → Guarantees image c → SpaceFits c
 unfolding slotOf partitionOf
 space-fits image c g = record {
@@ -83,7 +74,7 @@ space-fits image c g = record {
   where
     second : (b : Second) → SecondGuarantees (part image (active (c .header))) (c .header) b → TreeFits (c .header .b) (secondOr (c .a) b)
     second Missing e =
-        let none : c .header .b .partition .offset ≡ 0 = ap (λ (x : Slot). x .partition .offset) (unread-second (c .header .kind) (headerBytes image) (c .header) (g .fields) e) in
+        let none : c .header .b .partition .offset ≡ 0 = ap (λ (x : Slot). x .partition .offset) (g .header .unused e) in
         record {
           level1 = omega (arith, g .a .guarantees .pair1Inside, g .header .a .partitionInside);
           level2 = omega (arith, g .a .guarantees .pair2Inside, g .header .a .partitionInside);
