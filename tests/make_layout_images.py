@@ -55,6 +55,8 @@ SOUND_PARTITION = {
 }
 DESCRIPTOR = 0x12C
 PARTITION = 16 + 2 * 129
+# B's fields in a sound image of two partitions; where there is no B they are zero.
+PLACES_OF_B = {"B.descriptor.offset": DESCRIPTOR, "B.descriptor.size": DESCRIPTOR, "B.offset": 0x200 + 4 * DESCRIPTOR + PARTITION, "B.size": PARTITION}
 
 
 def noise(length, label):
@@ -91,8 +93,8 @@ def image(kind, header=None, a=None, b=None, count=1, flag=1, length=None):
     fields = {
         "opening": b"DISA\0\0\4\0" if kind == "DISA" else b"DIFF\0\0\3\0",
         "count": count, "flag": flag, "secondary": 0x200, "primary": 0x200 + size, "table.size": size,
-        "A.descriptor.offset": 0, "A.descriptor.size": DESCRIPTOR, "B.descriptor.offset": DESCRIPTOR, "B.descriptor.size": DESCRIPTOR,
-        "A.offset": 0x200 + 2 * size, "A.size": PARTITION, "B.offset": 0x200 + 2 * size + PARTITION, "B.size": PARTITION,
+        "A.descriptor.offset": 0, "A.descriptor.size": DESCRIPTOR, "A.offset": 0x200 + 2 * size, "A.size": PARTITION,
+        **(PLACES_OF_B if tables == 2 else dict.fromkeys(PLACES_OF_B, 0)),
     }
     sound_end = 0x200 + 2 * size + PARTITION * tables
     fields.update(header or {})
@@ -114,7 +116,6 @@ def flipped(data, place):
 
 
 TABLE2 = 2 * DESCRIPTOR
-UNREAD_B = {f"B.{name}": LARGEST for name in ("descriptor.offset", "descriptor.size", "offset", "size")}
 OUTSIDE_FIRST = {"A.offset": 0x200 + PARTITION + 3, "B.offset": 0x203, "primary": 0x200 + 2 * PARTITION + 8,
                  "secondary": 0x200 + 2 * PARTITION + 8 + TABLE2 + 1, "A.descriptor.offset": DESCRIPTOR, "B.descriptor.offset": 0}
 EXTERNAL = {"external": 7, "ivfc/4.offset": LARGEST, "dpfs/3.size": 96, "external.offset": 16 + 192, "ivfc/4.size": PARTITION - 16 - 192,
@@ -145,7 +146,7 @@ CASES = [
     ("0 DISA 2 0", image("DISA", count=2, flag=0)),
     ("0 DIFF 1 0", image("DIFF", flag=0)),
     ("0 DIFF 1 1", diff(EXTERNAL)),
-    ("0 DISA 1 0", image("DISA", UNREAD_B, flag=0)),
+    ("0 DISA 1 0", image("DISA", flag=0)),
     ("0 DISA 2 1", image("DISA", OUTSIDE_FIRST, count=2, length=0x203 + 2 * PARTITION + 8 + 2 * TABLE2)),
     ("0 DIFF 1 1", flipped(image("DIFF"), 0x200 + DESCRIPTOR)),  # the inactive table may hold anything
     ("0 DIFF 1 1", diff(MANY_BLOCKS, MANY_BLOCKS_PARTITION)),
@@ -159,12 +160,19 @@ CASES = [
     ("2", bytes(0x200)),
     ("2", image("DISA", {"opening": b"DISA\0\0\3\0"})),
     ("2", image("DIFF", {"opening": b"DIFF\0\0\4\0"})),
-    # 3: count and flag, compared whole.
+    # 3: count and flag, compared whole, and fields of B where there is no B.
     ("3", image("DISA", {"count": 0})),
     ("3", image("DISA", {"count": 3})),
     ("3", image("DISA", {"count": 0x101})),
     ("3", image("DISA", {"flag": 2})),
     ("3", image("DIFF", {"flag": 0x100})),
+    ("3", image("DISA", {"B.descriptor.offset": 1})),
+    ("3", image("DISA", {"B.descriptor.size": 2**63})),
+    ("3", image("DISA", {"B.offset": 2**32})),
+    ("3", image("DISA", {"B.size": 0x100}, flag=0)),
+    ("3", image("DISA", dict.fromkeys(PLACES_OF_B, LARGEST))),
+    ("3", image("DISA", {"count": 1}, count=2)),  # both partitions are there
+    ("3", image("DISA", {"B.size": 1, "table.size": 0})),  # 3 comes before 4
     # 4: the header's places and sizes.
     ("4", image("DISA", {"table.size": 0})),
     ("4", image("DISA", {"secondary": 0x1FF})),

@@ -141,7 +141,7 @@ fn p12_the_flag_of_a_diff() {
     let mut image = diff_with_data(40, 5, 5).image;
     assert_eq!(number(open(&image)), 0);
     image[HEADER + 0x30..HEADER + 0x34].copy_from_slice(&[0, 1, 0, 0]);
-    assert_eq!(open(&image), Err(Refusal::CountOrFlag));
+    assert_eq!(open(&image), Err(Refusal::Selection));
     image[HEADER + 0x30..HEADER + 0x34].copy_from_slice(&[1, 0, 0, 0]);
     // The secondary table is noise so far, and its hash is the one that counts now.
     assert_eq!(open(&image), Err(Refusal::TableHash));
@@ -149,6 +149,24 @@ fn p12_the_flag_of_a_diff() {
     image.copy_within(table.end() as usize..(table.end() + table.size) as usize, TABLE as usize);
     let opened = open(&image).expect("the secondary table is a copy of the primary");
     assert_eq!(opened.header.active_table(), table);
+}
+
+/// Each of B's four fields alone, where there is no B. 3 comes before 15, 16 and 4.
+#[test]
+fn leftover_fields_of_b() {
+    let wanted = Wanted { kind: Some(Kind::Disa), count: Some(1), ..Wanted::default() };
+    let mut image = valid_image(&mut Random::new(1), &wanted).image;
+    assert_eq!(number(open(&image)), 0);
+    for field in [0x38, 0x40, 0x58, 0x60] {
+        for byte in 0..8 {
+            image[HEADER + field + byte] = 0x80;
+            assert_eq!(number(open(&image)), 3, "byte {byte} of the field at {field:#x}");
+            let signer = Signer::Quota { extdata: 1 };
+            assert_eq!(number(open_signed(&image, &[1; 16], signer)), 3);
+            image[HEADER + field + byte] = 0;
+        }
+    }
+    assert_eq!(number(open(&image)), 0);
 }
 
 #[test]

@@ -7,7 +7,7 @@ use outside::rules::cmac::cmac;
 use outside::rules::compression::{compress, Digest};
 use outside::rules::descriptor::IVFC_LEVELS;
 use outside::rules::dpfs::View;
-use outside::rules::header::LONGEST_IMAGE;
+use outside::rules::header::{B_FIELDS, HEADER, LONGEST_IMAGE};
 use outside::rules::opening::open;
 use outside::rules::running::{Running, RunningBytes, LONGEST_MESSAGE, TOTAL, WAITING};
 use outside::rules::session::SessionBytes;
@@ -76,6 +76,11 @@ faults! {
     SaysYes,
     ForgetsFlag,
     RefusesLeftovers,
+    ForgetsFirstFieldOfB,
+    ForgetsLastFieldOfB,
+    JudgesFieldsOfBInDiff,
+    JudgesFieldsOfTwo,
+    JudgesFieldsOfBLate,
     BeginWritesMore,
     WriteDoesNothing,
     WritesLiveCopy,
@@ -125,15 +130,27 @@ impl Subject for Faulty {
     fn open(&self, image: &[u8], description: &mut Description) -> u64 {
         let untouched = *description;
         let answer = Rules.open(image, description);
-        if self.0 == Fault::RefusesEverything && answer == 0 {
-            return 4;
-        }
-        if self.0 == Fault::RefusesLeftovers && answer == 0 && has_leftovers(image) {
+        let refused = match (self.0, answer) {
+            (Fault::RefusesEverything, 0) => 4,
+            (Fault::RefusesLeftovers, 0) if has_leftovers(image) => 6,
+            (Fault::JudgesFieldsOfBInDiff, 0) if description[0] == 1 && has_fields_of_b(image) => 3,
+            (Fault::JudgesFieldsOfTwo, 0) if description[1] == 2 && has_fields_of_b(image) => 3,
+            _ => 0,
+        };
+        if refused != 0 {
             *description = untouched;
-            return 6;
+            return refused;
         }
-        if self.0 == Fault::ForgetsFlag && answer == 0 {
-            description[2] = 0;
+        match (self.0, answer) {
+            (Fault::ForgetsFlag, 0) => description[2] = 0,
+            (Fault::ForgetsFirstFieldOfB, 3) => return open_without(&[B_FIELDS[0]], image, description),
+            (Fault::ForgetsLastFieldOfB, 3) => return open_without(&[B_FIELDS[3]], image, description),
+            // 4 to 7 before 3.
+            (Fault::JudgesFieldsOfBLate, 3) => match open_without(&B_FIELDS, image, &mut untouched.clone()) {
+                0 => {}
+                number => return number,
+            },
+            _ => {}
         }
         answer
     }
@@ -383,6 +400,19 @@ fn padded_with_leftovers(value: &Running, state: &RunningBytes) -> Digest {
     last[56..].copy_from_slice(&(8 * value.total).to_be_bytes());
     let words = compress(value.hash, &last);
     std::array::from_fn(|place| words[place / 4].to_be_bytes()[place % 4])
+}
+
+fn has_fields_of_b(image: &[u8]) -> bool {
+    B_FIELDS.iter().any(|place| image[HEADER + place..HEADER + place + 8] != [0; 8])
+}
+
+/// Opens an image as if these fields of a DISA of one partition were zero.
+fn open_without(fields: &[usize], image: &[u8], description: &mut Description) -> u64 {
+    let mut image = image.to_vec();
+    if image[HEADER..HEADER + 12] == *b"DISA\x00\x00\x04\x00\x01\x00\x00\x00" {
+        fields.iter().for_each(|place| image[HEADER + place..HEADER + place + 8].fill(0));
+    }
+    Rules.open(&image, description)
 }
 
 /// Would a logarithm of A's IVFC be another number if it had eight bytes?

@@ -7,7 +7,8 @@ use crate::model::Version;
 use crate::rules::descriptor::{
     Level, DIFI_OPENING, DPFS_LEVELS, DPFS_OPENING, ENTRY, IVFC_LEVELS, IVFC_OPENING, SELECTOR,
 };
-use crate::rules::header::{Kind, DIFF_OPENING, DISA_OPENING, HEADER};
+use crate::rules::extent::Extent;
+use crate::rules::header::{Kind, PartitionPlace, DIFF_OPENING, DISA_OPENING, HEADER};
 use crate::rules::opening::{Opened, Partition};
 use crate::rules::sha256::sha256;
 
@@ -28,7 +29,7 @@ pub fn build(random: &mut Random, wanted: &Wanted, opened: Opened, length: usize
     if random.chance(30) {
         put_staged_table(random, &mut image, &opened, table);
     }
-    put_header(random, &mut image, &opened);
+    put_header(&mut image, &opened);
     put_table_hash(&mut image, &opened);
     Sample { image, opened, versions }
 }
@@ -120,7 +121,8 @@ fn put_staged_table(random: &mut Random, image: &mut [u8], opened: &Opened, mut 
     put(image, opened.header.inactive_table().offset as usize, &table);
 }
 
-fn put_header(random: &mut Random, image: &mut [u8], opened: &Opened) {
+/// Where a DISA has no B, its fields are zero.
+fn put_header(image: &mut [u8], opened: &Opened) {
     let header = &opened.header;
     let bytes = &mut image[HEADER..];
     let table_size = header.primary.size as u64;
@@ -133,14 +135,11 @@ fn put_header(random: &mut Random, image: &mut [u8], opened: &Opened) {
             put(bytes, 0x20, &table_size.to_le_bytes());
             put_extent(bytes, 0x28, a.descriptor.offset, a.descriptor.size);
             put_extent(bytes, 0x48, a.area.offset, a.area.size);
-            if let Some(b) = header.partitions.get(1) {
-                put_extent(bytes, 0x38, b.descriptor.offset, b.descriptor.size);
-                put_extent(bytes, 0x58, b.area.offset, b.area.size);
-            } else if random.chance(50) {
-                // The document says that B's fields are zero then; nothing reads them.
-                bytes[0x38..0x48].fill(0);
-                bytes[0x58..0x68].fill(0);
-            }
+            let nothing = Extent { offset: 0, size: 0 };
+            let no_b = PartitionPlace { descriptor: nothing, area: nothing };
+            let b = header.partitions.get(1).copied().unwrap_or(no_b);
+            put_extent(bytes, 0x38, b.descriptor.offset, b.descriptor.size);
+            put_extent(bytes, 0x58, b.area.offset, b.area.size);
             bytes[0x68] = header.flag as u8;
         }
         Kind::Diff => {

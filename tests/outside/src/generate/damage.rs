@@ -7,7 +7,7 @@ use super::shape::Wanted;
 use super::valid_image;
 use crate::rules::descriptor::{Level, DIFI_SIZE, DPFS_LEVELS, ENTRY, IVFC_LEVELS, SELECTOR};
 use crate::rules::extent::{number, Extent};
-use crate::rules::header::{Kind, HEADER, SHORTEST_IMAGE};
+use crate::rules::header::{Kind, B_FIELDS, HEADER, SHORTEST_IMAGE};
 use crate::rules::opening::{Opened, Partition};
 use crate::rules::sha256::sha256;
 
@@ -80,6 +80,11 @@ struct HeaderFields {
 impl Patient {
     fn partition(&self) -> &Partition {
         &self.opened.partitions[self.target]
+    }
+
+    /// A DISA of one partition.
+    fn has_no_b(&self) -> bool {
+        self.opened.header.kind == Kind::Disa && self.opened.partitions.len() == 1
     }
 
     fn fields(&self) -> HeaderFields {
@@ -300,6 +305,36 @@ pub const DAMAGES: &[Damage] = &[
             length == 4 || flag & 0xFF > 1
         },
     },
+    Damage {
+        name: "a byte in a field of B where there is no B",
+        number: 3,
+        apply: |random, patient| {
+            let place = HEADER + random.pick(&B_FIELDS) + random.below(8) as usize;
+            patient.image[place] = random.between(1, 255) as u8;
+            patient.has_no_b()
+        },
+    },
+    Damage {
+        name: "a likely value in a field of B where there is no B",
+        number: 3,
+        apply: |random, patient| {
+            let place = random.pick(&B_FIELDS);
+            let a = patient.partition().place;
+            let values =
+                [a.descriptor.end(), a.descriptor.size, a.area.end(), a.area.size, 1].map(|value| value as u64);
+            let value = random.pick(&values);
+            patient.set_header(place, value);
+            patient.has_no_b()
+        },
+    },
+    Damage {
+        name: "count 1 over two partitions",
+        number: 3,
+        apply: |_, patient| {
+            put(&mut patient.image, HEADER + 8, &1u32.to_le_bytes());
+            patient.opened.partitions.len() == 2
+        },
+    },
     // 4: tables.
     Damage {
         name: "table offset outside the image",
@@ -427,6 +462,14 @@ pub const DAMAGES: &[Damage] = &[
             let wrapping = size_wrapping(random, offset.into());
             let size = random.pick(&[0, room + 1, HALF_RANGE, u64::MAX, wrapping]);
             patient.set_header(patient.fields().area + 8, size)
+        },
+    },
+    Damage {
+        name: "count 2 over one partition",
+        number: 4,
+        apply: |_, patient| {
+            put(&mut patient.image, HEADER + 8, &2u32.to_le_bytes());
+            patient.has_no_b()
         },
     },
     // 4: descriptors in the table.
@@ -908,6 +951,17 @@ pub const DAMAGES: &[Damage] = &[
         },
     },
     // Two rules broken: the earlier one decides.
+    Damage {
+        name: "a field of B before a later damage",
+        number: 3,
+        apply: |random, patient| {
+            let later = random.between(4, 7);
+            let damaged = damage_of(random, patient, later);
+            let place = random.pick(&B_FIELDS);
+            patient.set_header(place, random.number() | 1);
+            damaged && patient.has_no_b() && number(&patient.image, HEADER + 8, 4) == 1
+        },
+    },
     Damage { name: "A's 7 before B's 6", number: 7, apply: |random, patient| two_partitions(random, patient, 7, 6) },
     Damage { name: "A's 6 before B's 7", number: 6, apply: |random, patient| two_partitions(random, patient, 6, 7) },
     Damage {

@@ -14,6 +14,9 @@ pub const FRONT: u128 = 0x200;
 pub const DISA_OPENING: &[u8; 8] = b"DISA\x00\x00\x04\x00";
 pub const DIFF_OPENING: &[u8; 8] = b"DIFF\x00\x00\x03\x00";
 
+/// Where a DISA has B's four fields, eight bytes each: its descriptor's offset and size, its own offset and size.
+pub const B_FIELDS: [usize; 4] = [0x38, 0x40, 0x58, 0x60];
+
 #[derive(Clone, Copy, Debug, PartialEq, Eq)]
 pub enum Kind {
     Disa,
@@ -98,7 +101,7 @@ pub fn read_kind(image: &[u8]) -> Result<Kind, Refusal> {
     }
 }
 
-/// Reads the header's fields and judges count and flag: refusals 1 to 3.
+/// Reads the header's fields and judges count, flag and leftover fields of B: refusals 1 to 3.
 pub fn read_header(image: &[u8]) -> Result<Header, Refusal> {
     let kind = read_kind(image)?;
     let bytes = &image[HEADER..HEADER + HEADER_LENGTH];
@@ -108,8 +111,9 @@ pub fn read_header(image: &[u8]) -> Result<Header, Refusal> {
     };
     let (flag_place, flag_length) = kind.flag_place();
     let flag = number(bytes, flag_place, flag_length);
-    if !(1..=2).contains(&count) || flag > 1 {
-        return Err(Refusal::CountOrFlag);
+    let leftovers = kind == Kind::Disa && count == 1 && B_FIELDS.iter().any(|place| number(bytes, *place, 8) != 0);
+    if !(1..=2).contains(&count) || flag > 1 || leftovers {
+        return Err(Refusal::Selection);
     }
     Ok(match kind {
         Kind::Disa => disa_fields(bytes, count, flag),

@@ -6,8 +6,8 @@ pub enum Refusal {
     Length,
     /// 2: the first eight header bytes are neither kind's.
     Kind,
-    /// 3: partition count or active flag.
-    CountOrFlag,
+    /// 3: partition count, active flag, or a field of B where there is no B.
+    Selection,
     /// 4: a range, size or disjointness rule of the header.
     HeaderPlaces,
     /// 5: the active table's hash.
@@ -43,7 +43,7 @@ impl Refusal {
         match self {
             Refusal::Length => 1,
             Refusal::Kind => 2,
-            Refusal::CountOrFlag => 3,
+            Refusal::Selection => 3,
             Refusal::HeaderPlaces => 4,
             Refusal::TableHash => 5,
             Refusal::DescriptorForm => 6,

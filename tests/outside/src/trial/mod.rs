@@ -4,6 +4,7 @@
 pub mod call;
 mod digest;
 mod full_bits;
+mod leftovers;
 pub mod list;
 pub mod properties;
 mod rows;
@@ -12,7 +13,7 @@ mod signing;
 pub mod tally;
 
 use crate::description::Description;
-use crate::generate::damage::{any_damage, damaged_image, mutate, patient, Damage, DAMAGES};
+use crate::generate::damage::{any_damage, damaged_image, mutate, patient, DAMAGES};
 use crate::generate::random::Random;
 use crate::generate::shape::Wanted;
 use crate::generate::signing::SigningKey;
@@ -43,7 +44,7 @@ pub fn run_case(seed: u64, subject: Option<&dyn Subject>, tally: &mut Tally) -> 
         60..=73 => {
             let damage = any_damage(random);
             let image = damaged_image(random, &damage).image;
-            refused_image(random, image, Some(&damage), subject, tally)
+            refused_image(random, image, damage.number, subject, tally)
                 .map_err(|complaint| format!("{}: {complaint}", damage.name))
         }
         74..=83 => {
@@ -64,18 +65,19 @@ pub fn run_case(seed: u64, subject: Option<&dyn Subject>, tally: &mut Tally) -> 
 /// How often every run tries each damage, so that each of its values comes up.
 const TRIES_OF_EACH_DAMAGE: u64 = 40;
 
-/// Cases that every run must have tried: each damage, levels of bits that are full, the limits of an image's length, each bit
-/// of a signature, a long message.
+/// Cases that every run must have tried: each damage, levels of bits that are full, leftovers in the header, the limits of an
+/// image's length, each bit of a signature, a long message.
 pub fn run_fixed_cases(subject: Option<&dyn Subject>, tally: &mut Tally) -> Result<(), String> {
     let random = &mut Random::new(0);
     for damage in DAMAGES {
         for _ in 0..TRIES_OF_EACH_DAMAGE {
             let image = damaged_image(random, damage).image;
-            refused_image(random, image, Some(damage), subject, tally)
+            refused_image(random, image, damage.number, subject, tally)
                 .map_err(|complaint| format!("{}: {complaint}", damage.name))?;
         }
     }
     full_bits::run(subject, tally)?;
+    leftovers::run(subject, tally).map_err(|complaint| format!("leftovers: {complaint}"))?;
     let mut image = valid_image(&mut Random::new(0), &Wanted::default()).image;
     let signing_key = SigningKey::choose(random, &image);
     signing_key.sign(&mut image);
@@ -118,7 +120,7 @@ fn any_image(
             let versions = versions(&image, &opened);
             List::new(random, Sample { image, opened, versions }, subject, tally).run(random, 6)
         }
-        Err(_) => refused_image(random, image, None, subject, tally),
+        Err(refusal) => refused_image(random, image, refusal.number(), subject, tally),
     }
 }
 
@@ -131,19 +133,15 @@ fn versions(image: &[u8], opened: &Opened) -> Vec<Version> {
         .collect()
 }
 
-/// Every call but abandon, signed opening and the ones for signing answers opening's number, whatever its arguments and
+/// Every call but abandon, signed opening and the ones for signing answers opening's `number`, whatever its arguments and
 /// session, and changes nothing. Most of the images are signed as they are.
 fn refused_image(
     random: &mut Random,
     mut image: Vec<u8>,
-    damage: Option<&Damage>,
+    number: u64,
     subject: Option<&dyn Subject>,
     tally: &mut Tally,
 ) -> Result<(), String> {
-    let number = match damage {
-        Some(damage) => damage.number,
-        None => open(&image).err().map_or(0, |refusal| refusal.number()),
-    };
     let signing_key = SigningKey::choose(random, &image);
     if random.chance(80) {
         signing_key.sign(&mut image);
