@@ -37,7 +37,7 @@ enum {
     TEPLOVIST_ACCEPTED = 0,
     TEPLOVIST_LENGTH = 1,           /* the image is not 0x200 to 0x4000000 bytes long */
     TEPLOVIST_FORMAT = 2,           /* the first eight header bytes are neither kind */
-    TEPLOVIST_SELECTION = 3,        /* a partition count other than 1 or 2, or an active flag other than 0 or 1 */
+    TEPLOVIST_SELECTION = 3,        /* a partition count other than 1 or 2, an active flag other than 0 or 1, or fields of a B that is not there */
     TEPLOVIST_GEOMETRY = 4,         /* a range, a size or a disjointness rule of the header */
     TEPLOVIST_TABLE_HASH = 5,       /* the active table's SHA-256 differs */
     TEPLOVIST_DESCRIPTOR = 6,       /* a descriptor's opening bytes, piece sizes, selector, logarithms or level sizes */
