@@ -27,7 +27,9 @@ mod subject;
 #[path = "../tests/outside/src/rules"]
 #[allow(dead_code)]
 mod rules {
+    pub mod aes;
     pub mod calls;
+    pub mod cmac;
     pub mod compression;
     pub mod descriptor;
     pub mod dpfs;

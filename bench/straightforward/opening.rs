@@ -6,7 +6,8 @@ use crate::rules::descriptor::{
     MOST_MASTER_ENTRIES, SELECTOR,
 };
 use crate::rules::header::{
-    Kind, DIFF_OPENING, DISA_OPENING, FRONT, HEADER, HEADER_LENGTH, LARGEST_TABLE, LONGEST_IMAGE, SHORTEST_IMAGE,
+    Kind, B_FIELDS, DIFF_OPENING, DISA_OPENING, FRONT, HEADER, HEADER_LENGTH, LARGEST_TABLE, LONGEST_IMAGE,
+    SHORTEST_IMAGE,
 };
 use crate::rules::refusal::Refusal;
 
@@ -124,8 +125,9 @@ fn read_header(image: &[u8]) -> Result<Header, Refusal> {
     } else {
         return Err(Refusal::Kind);
     };
-    if !(1..=2).contains(&count) || flag > 1 {
-        return Err(Refusal::CountOrFlag);
+    let leftovers = kind == Kind::Disa && count == 1 && B_FIELDS.iter().any(|place| number(bytes, *place) != 0);
+    if !(1..=2).contains(&count) || flag > 1 || leftovers {
+        return Err(Refusal::Selection);
     }
     let header = header_fields(bytes, kind, count as usize, flag);
     if header_places_hold(&header, image.len() as u64) {
