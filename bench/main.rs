@@ -34,6 +34,7 @@ mod rules {
     pub mod descriptor;
     pub mod dpfs;
     pub mod extent;
+    pub mod faults;
     pub mod header;
     pub mod ivfc;
     pub mod opening;

@@ -1,9 +1,10 @@
-//! The proved library behind its C boundary, made safe to call: a slice passes as a pointer and a length, a fixed array
-//! as a pointer.
+//! The proved library behind its C boundary, made safe to call: a slice passes as a pointer and a length, counted in
+//! elements, a fixed array as a pointer.
 
 use crate::description::Description;
 use crate::rules::aes::Key;
 use crate::rules::compression::Digest;
+use crate::rules::faults::FaultRecord;
 use crate::rules::running::RunningBytes;
 use crate::rules::session::SessionBytes;
 use crate::rules::signing::{BlockBytes, SignerNumbers};
@@ -56,6 +57,7 @@ extern "C" {
         key: *const u8,
         signer: *const u64,
     ) -> u64;
+    fn teplovist_faults(image: *const u8, image_len: usize, row: *mut FaultRecord, row_len: usize) -> u64;
     fn teplovist_signing_block(image: *const u8, image_len: usize, signer: *const u64, block: *mut u8) -> u64;
     fn teplovist_signing_digest(image: *const u8, image_len: usize, signer: *const u64, digest: *mut u8) -> u64;
     fn teplovist_digest_start(state: *mut u8);
@@ -142,6 +144,10 @@ impl Subject for Library {
                 signer.as_ptr(),
             )
         }
+    }
+
+    fn faults(&self, image: &[u8], row: &mut [FaultRecord]) -> u64 {
+        unsafe { teplovist_faults(image.as_ptr(), image.len(), row.as_mut_ptr(), row.len()) }
     }
 
     fn signing_block(&self, image: &[u8], signer: &SignerNumbers, block: &mut BlockBytes) -> u64 {

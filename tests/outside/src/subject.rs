@@ -5,6 +5,7 @@ use crate::description::{describe, Description};
 use crate::rules::aes::Key;
 use crate::rules::calls;
 use crate::rules::compression::Digest;
+use crate::rules::faults::{self, FaultRecord};
 use crate::rules::opening;
 use crate::rules::refusal::answer_code;
 use crate::rules::running::{Running, RunningBytes};
@@ -23,6 +24,7 @@ pub trait Subject {
     fn abandon(&self, session: &mut SessionBytes) -> u64;
     fn open_signed(&self, image: &[u8], key: &Key, signer: &SignerNumbers, description: &mut Description) -> u64;
     fn commit_signed(&self, image: &mut [u8], session: &mut SessionBytes, key: &Key, signer: &SignerNumbers) -> u64;
+    fn faults(&self, image: &[u8], row: &mut [FaultRecord]) -> u64;
     fn signing_block(&self, image: &[u8], signer: &SignerNumbers, block: &mut BlockBytes) -> u64;
     fn signing_digest(&self, image: &[u8], signer: &SignerNumbers, digest: &mut Digest) -> u64;
     fn digest_start(&self, state: &mut RunningBytes);
@@ -98,6 +100,10 @@ impl Subject for Rules {
             *session = value.to_bytes();
             0
         }))
+    }
+
+    fn faults(&self, image: &[u8], row: &mut [FaultRecord]) -> u64 {
+        answer_code(faults::fill_row(image, row))
     }
 
     /// The answer's value is the block's length; what is left of the array is zero.

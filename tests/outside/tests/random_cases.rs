@@ -5,8 +5,9 @@ use outside::description::{Description, DESCRIPTION_LENGTH};
 use outside::rules::aes::Key;
 use outside::rules::cmac::cmac;
 use outside::rules::compression::{compress, Digest};
-use outside::rules::descriptor::IVFC_LEVELS;
+use outside::rules::descriptor::{ENTRY, IVFC_LEVELS, SELECTOR};
 use outside::rules::dpfs::View;
+use outside::rules::faults::{faults, FaultRecord};
 use outside::rules::header::{B_FIELDS, HEADER, LONGEST_IMAGE};
 use outside::rules::opening::open;
 use outside::rules::running::{Running, RunningBytes, LONGEST_MESSAGE, TOTAL, WAITING};
@@ -36,6 +37,7 @@ fn the_model_agrees_and_every_answer_occurs() {
         ("commit", vec![13, 14]),
         ("open signed", vec![15, 16]),
         ("commit signed", vec![13, 14, 15]),
+        ("faults", vec![]),
     ];
     let signing = [("signing block", vec![0, 1, 2, 15]), ("signing digest", vec![0, 1, 2, 15])];
     let digests = [("digest start", vec![0]), ("digest feed", vec![0, 22]), ("digest finish", vec![0, 22])];
@@ -121,6 +123,18 @@ faults! {
     RefusedFeedCounts,
     LooksBehindWaiting,
     ForgetsWaiting,
+    ReportsTwice,
+    LevelsFromFourUp,
+    PartitionBFirst,
+    BlocksFromTheLast,
+    ClearsRecordAfterLast,
+    AnswersWhatFitted,
+    ListsStagedView,
+    ListsSpareBlocksNot,
+    ListsExternalNot,
+    ListsRootsOnly,
+    ShortRowHoldsLast,
+    ClearsRowOnRefusal,
 }
 
 /// The model with one fault.
@@ -299,6 +313,35 @@ impl Subject for Faulty {
         answer
     }
 
+    fn faults(&self, image: &[u8], row: &mut [FaultRecord]) -> u64 {
+        let Ok(mut list) = faults(image) else {
+            if self.0 == Fault::ClearsRowOnRefusal {
+                row.fill(FaultRecord { partition: 0, level: 0, block: 0 });
+            }
+            return Rules.faults(image, row);
+        };
+        match self.0 {
+            Fault::ReportsTwice => list.extend(list.last().copied()),
+            Fault::LevelsFromFourUp => list.sort_by_key(|fault| (fault.partition, 4 - fault.level, fault.block)),
+            Fault::PartitionBFirst => list.sort_by_key(|fault| (1 - fault.partition, fault.level, fault.block)),
+            Fault::BlocksFromTheLast => list.sort_by_key(|fault| (fault.partition, fault.level, !fault.block)),
+            Fault::ListsStagedView => list = staged_faults(image, list),
+            Fault::ListsSpareBlocksNot => list.retain(|fault| !is_spare(image, fault)),
+            Fault::ListsExternalNot => list.retain(|fault| fault.level < 4 || !is_external(image, fault)),
+            Fault::ListsRootsOnly => list = roots_of(image, list),
+            _ => {}
+        }
+        let fitting = list.len().min(row.len());
+        let first = if self.0 == Fault::ShortRowHoldsLast { list.len() - fitting } else { 0 };
+        row[..fitting].copy_from_slice(&list[first..first + fitting]);
+        match (self.0, row.get_mut(fitting)) {
+            (Fault::ClearsRecordAfterLast, Some(next)) => *next = FaultRecord { partition: 0, level: 0, block: 0 },
+            (Fault::AnswersWhatFitted, _) => return (fitting as u64) << 8,
+            _ => {}
+        }
+        (list.len() as u64) << 8
+    }
+
     fn signing_block(&self, image: &[u8], signer: &SignerNumbers, block: &mut BlockBytes) -> u64 {
         let untouched = *block;
         let [kind, id, name, directory] = *signer;
@@ -422,6 +465,47 @@ fn has_leftovers(image: &[u8]) -> bool {
     let table = opened.header.active_table().offset + partition.place.descriptor.offset;
     let ivfc = (table + partition.descriptor.ivfc.offset) as usize;
     IVFC_LEVELS.iter().any(|place| image[ivfc + place + 20..ivfc + place + 24] != [0; 4])
+}
+
+/// The faults of level 4 in the staged view, with the others as they are.
+fn staged_faults(image: &[u8], list: Vec<FaultRecord>) -> Vec<FaultRecord> {
+    let opened = open(image).expect("it has opened");
+    let mut staged: Vec<FaultRecord> = list.into_iter().filter(|fault| fault.level < 4).collect();
+    for (number, partition) in (0..).zip(&opened.partitions) {
+        let table = opened.header.inactive_table().offset + partition.place.descriptor.offset;
+        if image[table as usize + SELECTOR] <= 1 {
+            let verified = View::staged(image, &opened, partition).verified_blocks(4);
+            let bad = (0..).zip(verified).filter(|(_, verified)| !verified);
+            staged.extend(bad.map(|(block, _)| FaultRecord { partition: number, level: 4, block }));
+        }
+    }
+    staged.sort();
+    staged
+}
+
+/// Is the fault a hash block above no block of the next level?
+fn is_spare(image: &[u8], fault: &FaultRecord) -> bool {
+    let descriptor = &open(image).expect("it has opened").partitions[fault.partition as usize].descriptor;
+    let level = fault.level as usize;
+    level < 4
+        && ENTRY * descriptor.hash_level(level + 1).blocks()
+            <= u128::from(fault.block) * descriptor.hash_level(level).block_size()
+}
+
+fn is_external(image: &[u8], fault: &FaultRecord) -> bool {
+    open(image).expect("it has opened").partitions[fault.partition as usize].descriptor.external.is_some()
+}
+
+/// The faults that are below no other.
+fn roots_of(image: &[u8], list: Vec<FaultRecord>) -> Vec<FaultRecord> {
+    let opened = open(image).expect("it has opened");
+    let above = |fault: &FaultRecord| {
+        let descriptor = &opened.partitions[fault.partition as usize].descriptor;
+        let level = fault.level - 1;
+        let entries = descriptor.hash_level(level as usize).block_size() / ENTRY;
+        FaultRecord { level, block: fault.block / entries as u64, ..*fault }
+    };
+    list.iter().copied().filter(|fault| fault.level == 1 || list.binary_search(&above(fault)).is_err()).collect()
 }
 
 /// Every entry of the staged master hash that a write has changed goes to the first entry's place instead.

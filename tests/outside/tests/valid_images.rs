@@ -6,7 +6,9 @@ use outside::generate::shape::Wanted;
 use outside::generate::{valid_image, Sample};
 use outside::rules::descriptor::{DPFS_LEVELS, IVFC_LEVELS};
 use outside::rules::dpfs::View;
+use outside::rules::faults::faults;
 use outside::rules::opening::open;
+use outside::trial::faults::known_faults;
 
 /// The four bytes behind each logarithm may hold anything.
 #[test]
@@ -35,6 +37,9 @@ fn opening_and_views_agree_with_the_builder() {
         let sample = valid_image(&mut Random::new(seed), &Wanted::default());
         let opened = open(&sample.image).expect("the image is valid");
         assert_eq!(opened, sample.opened, "seed {seed}");
+        if seed % 5 == 0 {
+            assert_eq!(faults(&sample.image), Ok(known_faults(&sample)), "seed {seed}");
+        }
         for (partition, version) in opened.partitions.iter().zip(&sample.versions) {
             let view = View::committed(&sample.image, &opened, partition);
             assert_eq!(view.data(), version.bytes, "seed {seed}");

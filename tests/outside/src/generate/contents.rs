@@ -19,10 +19,12 @@ pub fn build(random: &mut Random, wanted: &Wanted, opened: Opened, length: usize
     }
     let mut table = random.bytes(opened.header.primary.size as usize);
     let mut versions = Vec::new();
+    let mut hash_verified = Vec::new();
     for partition in &opened.partitions {
-        let (version, master) = fill_partition(random, wanted, &mut image, partition);
-        put_descriptor(random, wanted, &mut table, partition, &master);
-        versions.push(version);
+        let filled = fill_partition(random, wanted, &mut image, partition);
+        put_descriptor(random, wanted, &mut table, partition, &filled.master);
+        versions.push(filled.version);
+        hash_verified.push(filled.hash_verified);
     }
     let active = opened.header.active_table().offset as usize;
     image[active..active + table.len()].copy_from_slice(&table);
@@ -31,7 +33,7 @@ pub fn build(random: &mut Random, wanted: &Wanted, opened: Opened, length: usize
     }
     put_header(&mut image, &opened);
     put_table_hash(&mut image, &opened);
-    Sample { image, opened, versions }
+    Sample { image, opened, versions, hash_verified }
 }
 
 pub fn put(bytes: &mut [u8], place: usize, data: &[u8]) {
@@ -158,9 +160,16 @@ pub fn put_table_hash(image: &mut [u8], opened: &Opened) {
     put(image, HEADER + opened.header.kind.hash_place(), &digest);
 }
 
-/// Fills a partition's level 4 and hash levels and lays them into the live copies. Answers what is readable, and the
-/// master hash.
-fn fill_partition(random: &mut Random, wanted: &Wanted, image: &mut [u8], partition: &Partition) -> (Version, Vec<u8>) {
+/// What is known of a partition once it is filled.
+struct Filled {
+    version: Version,
+    /// Which blocks of levels 1 to 3 are verified.
+    hash_verified: [Vec<bool>; 3],
+    master: Vec<u8>,
+}
+
+/// Fills a partition's level 4 and hash levels and lays them into the live copies.
+fn fill_partition(random: &mut Random, wanted: &Wanted, image: &mut [u8], partition: &Partition) -> Filled {
     let descriptor = &partition.descriptor;
     let [_, _, _, data_level] = descriptor.hash_levels;
     let mut data = random.bytes(data_level.extent.size as usize);
@@ -184,12 +193,15 @@ fn fill_partition(random: &mut Random, wanted: &Wanted, image: &mut [u8], partit
     let master = levels.pop().expect("the master hash is there");
 
     // From level 1 downwards: a block is verified if its entry matches and the block with the entry is verified.
-    let mut verified = matches.pop().expect("level 1 has blocks");
-    for level in 2..=4 {
-        let good = matches.pop().expect("each level has blocks");
+    matches.reverse();
+    let [one, two, three, four]: [Vec<bool>; 4] = matches.try_into().expect("there are four levels");
+    let below = |above: &[bool], good: Vec<bool>, level: usize| -> Vec<bool> {
         let entries_per_block = (1usize << descriptor.hash_level(level - 1).log) / ENTRY as usize;
-        verified = good.iter().enumerate().map(|(block, good)| *good && verified[block / entries_per_block]).collect();
-    }
+        good.iter().enumerate().map(|(block, good)| *good && above[block / entries_per_block]).collect()
+    };
+    let two = below(&one, two, 2);
+    let three = below(&two, three, 3);
+    let verified = below(&three, four, 4);
 
     let mut level3 = random.bytes(descriptor.level3.extent.size as usize);
     let area = partition.place.area.offset as usize;
@@ -201,7 +213,7 @@ fn fill_partition(random: &mut Random, wanted: &Wanted, image: &mut [u8], partit
         }
     }
     scatter(image, partition, &level3);
-    (Version { bytes: data, verified }, master)
+    Filled { version: Version { bytes: data, verified }, hash_verified: [one, two, three], master }
 }
 
 /// In how many of a hundred cases a block of level 1 to 4 gets an entry that does not match.

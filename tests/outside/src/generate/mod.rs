@@ -20,6 +20,8 @@ pub struct Sample {
     pub opened: Opened,
     /// The committed level 4 of each partition: its bytes and which blocks are verified.
     pub versions: Vec<Version>,
+    /// Which blocks of each partition's levels 1 to 3 are verified.
+    pub hash_verified: Vec<[Vec<bool>; 3]>,
 }
 
 /// A valid image with the wanted properties; the rest is left to chance.

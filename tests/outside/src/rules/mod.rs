@@ -7,6 +7,7 @@ pub mod compression;
 pub mod descriptor;
 pub mod dpfs;
 pub mod extent;
+pub mod faults;
 pub mod header;
 pub mod ivfc;
 pub mod opening;

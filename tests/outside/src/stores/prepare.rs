@@ -60,7 +60,7 @@ fn prepare_list(random: &mut Random, mut image: Vec<u8>, prepared: &mut Vec<Prep
     let mut session = [0; SESSION_LENGTH];
     for _ in 0..CALLS_OF_AN_IMAGE {
         let kind = choose_kind(random, session[0] != 0);
-        let call = Call::of_kind(random, opened.as_ref(), &signing_key, kind);
+        let call = Call::of_kind(random, &image, opened.as_ref(), &signing_key, kind);
         let mut handed = if random.chance(10) { forged(random, &image) } else { session };
         prepared.push(Prepared { image: image.clone(), session: handed, call: call.clone() });
         if call.perform(&Rules, &mut image, &mut handed).accepted() {
@@ -114,6 +114,7 @@ pub fn to_bytes(prepared: &[Prepared]) -> Vec<u8> {
             Call::SigningDigest { signer } => (10, [0, 0], &signer_bytes(signer)),
             Call::OpenSigned { signing_key } => (11, [0, 0], &signing_key_bytes(signing_key)),
             Call::CommitSigned { signing_key } => (12, [0, 0], &signing_key_bytes(signing_key)),
+            Call::Faults { room } => (13, [*room as u64, 0], &[]),
         };
         for number in [kind, numbers[0], numbers[1]] {
             bytes.extend_from_slice(&number.to_le_bytes());
@@ -151,7 +152,8 @@ pub fn from_bytes(mut bytes: &[u8]) -> Vec<Prepared> {
             9 => Call::SigningBlock { signer: signer_of(data) },
             10 => Call::SigningDigest { signer: signer_of(data) },
             11 => Call::OpenSigned { signing_key: signing_key_of(data) },
-            _ => Call::CommitSigned { signing_key: signing_key_of(data) },
+            12 => Call::CommitSigned { signing_key: signing_key_of(data) },
+            _ => Call::Faults { room: partition as usize },
         };
         prepared.push(Prepared { image, session, call });
     }

@@ -3,6 +3,7 @@
 use crate::description::{Description, DESCRIPTION_LENGTH};
 use crate::generate::random::Random;
 use crate::generate::signing::{choose_signer, SigningKey};
+use crate::rules::faults::{faults, FaultRecord};
 use crate::rules::opening::Opened;
 use crate::rules::session::SessionBytes;
 use crate::rules::signing::{SignerNumbers, LONGEST_BLOCK};
@@ -11,18 +12,47 @@ use crate::subject::Subject;
 #[derive(Clone, Debug)]
 pub enum Call {
     Open,
-    ReadCommitted { partition: u64, place: u64, length: usize },
-    ReadStaged { partition: u64, place: u64, length: usize },
-    Verified { partition: u64, block: u64 },
-    CountVerified { partition: u64 },
+    ReadCommitted {
+        partition: u64,
+        place: u64,
+        length: usize,
+    },
+    ReadStaged {
+        partition: u64,
+        place: u64,
+        length: usize,
+    },
+    Verified {
+        partition: u64,
+        block: u64,
+    },
+    CountVerified {
+        partition: u64,
+    },
     Begin,
-    Write { partition: u64, place: u64, data: Vec<u8> },
+    Write {
+        partition: u64,
+        place: u64,
+        data: Vec<u8>,
+    },
     Commit,
     Abandon,
-    SigningBlock { signer: SignerNumbers },
-    SigningDigest { signer: SignerNumbers },
-    OpenSigned { signing_key: SigningKey },
-    CommitSigned { signing_key: SigningKey },
+    SigningBlock {
+        signer: SignerNumbers,
+    },
+    SigningDigest {
+        signer: SignerNumbers,
+    },
+    OpenSigned {
+        signing_key: SigningKey,
+    },
+    CommitSigned {
+        signing_key: SigningKey,
+    },
+    /// With room for so many records.
+    Faults {
+        room: usize,
+    },
 }
 
 impl std::fmt::Display for Call {
@@ -37,7 +67,7 @@ impl std::fmt::Display for Call {
 }
 
 /// How many kinds of calls there are.
-pub const CALL_KINDS: usize = 13;
+pub const CALL_KINDS: usize = 14;
 
 /// Everything that a call hands back besides image and session.
 #[derive(Clone, Debug, PartialEq, Eq)]
@@ -45,9 +75,20 @@ pub struct Outcome {
     pub answer: u64,
     pub buffer: Vec<u8>,
     pub description: Description,
+    pub row: Vec<FaultRecord>,
 }
 
 impl Outcome {
+    /// What a refused call hands back: all that it was lent, as it was.
+    pub fn refused(call: &Call, answer: u64) -> Outcome {
+        Outcome {
+            answer,
+            buffer: untouched_buffer(call.buffer_length()),
+            description: UNTOUCHED_DESCRIPTION,
+            row: untouched_row(call.row_length()),
+        }
+    }
+
     pub fn accepted(&self) -> bool {
         self.answer & 0xFF == 0
     }
@@ -59,6 +100,12 @@ pub fn untouched_buffer(length: usize) -> Vec<u8> {
 }
 
 pub const UNTOUCHED_DESCRIPTION: Description = [0xD5D5_D5D5_D5D5_D5D5; DESCRIPTION_LENGTH];
+
+/// The same of a row: no record in it is a fault's, and no two are alike.
+pub fn untouched_row(length: usize) -> Vec<FaultRecord> {
+    let noise = |index: u64| FaultRecord { partition: !index, level: 5 + index, block: index << 32 | 0xD5D5 };
+    (0..length as u64).map(noise).collect()
+}
 
 impl Call {
     pub fn name(&self) -> &'static str {
@@ -76,6 +123,7 @@ impl Call {
             Call::SigningDigest { .. } => "signing digest",
             Call::OpenSigned { .. } => "open signed",
             Call::CommitSigned { .. } => "commit signed",
+            Call::Faults { .. } => "faults",
         }
     }
 
@@ -84,6 +132,13 @@ impl Call {
             Call::ReadCommitted { length, .. } | Call::ReadStaged { length, .. } => *length,
             Call::SigningBlock { .. } => LONGEST_BLOCK,
             Call::SigningDigest { .. } => 32,
+            _ => 0,
+        }
+    }
+
+    pub fn row_length(&self) -> usize {
+        match self {
+            Call::Faults { room } => *room,
             _ => 0,
         }
     }
@@ -97,8 +152,7 @@ impl Call {
     }
 
     pub fn perform(&self, subject: &dyn Subject, image: &mut [u8], session: &mut SessionBytes) -> Outcome {
-        let mut buffer = untouched_buffer(self.buffer_length());
-        let mut description = UNTOUCHED_DESCRIPTION;
+        let Outcome { mut buffer, mut description, mut row, .. } = Outcome::refused(self, 0);
         let answer = match self {
             Call::Open => subject.open(image, &mut description),
             Call::ReadCommitted { partition, place, .. } => {
@@ -121,17 +175,24 @@ impl Call {
             Call::CommitSigned { signing_key } => {
                 subject.commit_signed(image, session, &signing_key.key, &signing_key.signer)
             }
+            Call::Faults { .. } => subject.faults(image, &mut row),
         };
-        Outcome { answer, buffer, description }
+        Outcome { answer, buffer, description, row }
     }
 
-    /// Any call, with arguments that fit these partitions and this key most of the time. In a begun session writes are
+    /// Any call, with arguments that fit this image and this key most of the time. In a begun session writes are
     /// frequent.
-    pub fn choose(random: &mut Random, opened: Option<&Opened>, signing_key: &SigningKey, begun: bool) -> Call {
+    pub fn choose(
+        random: &mut Random,
+        image: &[u8],
+        opened: Option<&Opened>,
+        signing_key: &SigningKey,
+        begun: bool,
+    ) -> Call {
         let shares: [u64; CALL_KINDS] = if begun {
-            [2, 10, 18, 6, 2, 3, 44, 7, 4, 4, 3, 4, 7]
+            [2, 10, 18, 6, 2, 3, 44, 7, 4, 4, 3, 4, 7, 5]
         } else {
-            [3, 20, 4, 14, 5, 40, 6, 4, 4, 6, 4, 12, 4]
+            [3, 20, 4, 14, 5, 40, 6, 4, 4, 6, 4, 12, 4, 10]
         };
         let mut share = random.below(shares.iter().sum());
         let mut number = 0;
@@ -139,11 +200,17 @@ impl Call {
             share -= shares[number];
             number += 1;
         }
-        Call::of_kind(random, opened, signing_key, number)
+        Call::of_kind(random, image, opened, signing_key, number)
     }
 
     /// A call of one of these kinds, in the order of the declarations above.
-    pub fn of_kind(random: &mut Random, opened: Option<&Opened>, signing_key: &SigningKey, number: usize) -> Call {
+    pub fn of_kind(
+        random: &mut Random,
+        image: &[u8],
+        opened: Option<&Opened>,
+        signing_key: &SigningKey,
+        number: usize,
+    ) -> Call {
         let partition = choose_partition(random, opened);
         let (data_size, block_size) = data_shape(opened, partition);
         match number {
@@ -168,13 +235,26 @@ impl Call {
             9 => Call::SigningBlock { signer: choose_signer(random) },
             10 => Call::SigningDigest { signer: choose_signer(random) },
             11 => Call::OpenSigned { signing_key: signing_key.vary(random) },
-            _ => Call::CommitSigned { signing_key: signing_key.vary(random) },
+            12 => Call::CommitSigned { signing_key: signing_key.vary(random) },
+            _ => Call::Faults { room: choose_room(random, faults(image).map_or(3, |list| list.len())) },
         }
     }
 }
 
 fn as_array<const LENGTH: usize>(buffer: &mut [u8]) -> &mut [u8; LENGTH] {
     buffer.try_into().expect("the buffer has the call's length")
+}
+
+/// Room for a list of so many records: none, too little, just enough, or more than that.
+fn choose_room(random: &mut Random, records: usize) -> usize {
+    match random.below(6) {
+        0 => 0,
+        1 => random.below(records as u64 + 1) as usize,
+        2 => records.saturating_sub(1),
+        3 => records,
+        4 => records + 1,
+        _ => records + random.below(20) as usize,
+    }
 }
 
 fn choose_partition(random: &mut Random, opened: Option<&Opened>) -> u64 {

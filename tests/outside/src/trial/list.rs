@@ -1,7 +1,8 @@
 //! A list of calls on one image. After each call the two views must equal the reference model's versions, protected
 //! bytes must be as before, and the subject must have done just the same.
 
-use super::call::{untouched_buffer, Call, Outcome, UNTOUCHED_DESCRIPTION};
+use super::call::{Call, Outcome, UNTOUCHED_DESCRIPTION};
+use super::faults::{check_row, list_of};
 use super::properties::{check_begin, check_commit, check_signed_commit, check_write, require, touched_master_entries};
 use super::rows::touches_row;
 use super::signatures::signed_answer;
@@ -15,6 +16,7 @@ use crate::model::{Model, Version};
 use crate::rules::descriptor::ENTRY;
 use crate::rules::dpfs::View;
 use crate::rules::extent::Extent;
+use crate::rules::faults::FaultRecord;
 use crate::rules::header::{HEADER, HEADER_LENGTH};
 use crate::rules::opening::{open, Opened};
 use crate::rules::protected::free_bytes;
@@ -86,7 +88,7 @@ impl<'a> List<'a> {
             if random.chance(5) {
                 self.sign(random).map_err(|complaint| format!("after the host has signed: {complaint}"))?;
             }
-            let call = Call::choose(random, Some(&self.opened), &self.signing_key, self.session[0] != 0);
+            let call = Call::choose(random, &self.image, Some(&self.opened), &self.signing_key, self.session[0] != 0);
             let forged = random.chance(15);
             let mut session = if forged { self.forge_session(random) } else { self.session };
             self.try_call(&call, &mut session).map_err(|complaint| format!("{call}: {complaint}"))?;
@@ -139,10 +141,8 @@ impl<'a> List<'a> {
             self.tally.rows += u64::from(touches_row(call, &self.image, &self.opened));
             self.check_accepted(call, &before, &session_before, session, &outcome)?;
         } else {
-            let untouched = self.image == before
-                && *session == session_before
-                && outcome.buffer == untouched_buffer(call.buffer_length())
-                && outcome.description == UNTOUCHED_DESCRIPTION;
+            let untouched =
+                self.image == before && *session == session_before && outcome == Outcome::refused(call, outcome.answer);
             require(untouched, || format!("refused with {:#x}, and yet something changed", outcome.answer))?;
         }
         self.check_views()
@@ -201,8 +201,8 @@ impl<'a> List<'a> {
             Call::Begin if session[0] == 0 => Some(Prediction::Answer(0)),
             Call::Abandon if session[0] != 0 => Some(Prediction::Answer(0)),
             Call::Begin | Call::Abandon => refused(Refusal::WrongSession),
-            // The model knows no header.
-            Call::SigningBlock { .. } | Call::SigningDigest { .. } => None,
+            // The model knows no header and no hash blocks.
+            Call::SigningBlock { .. } | Call::SigningDigest { .. } | Call::Faults { .. } => None,
             Call::ReadCommitted { partition, .. }
             | Call::ReadStaged { partition, .. }
             | Call::Verified { partition, .. }
@@ -282,6 +282,7 @@ impl<'a> List<'a> {
                 return self.check_signed();
             }
             Call::Open | Call::OpenSigned { .. } => self.check_description(&outcome.description)?,
+            Call::Faults { .. } => check_row(outcome, &self.expected_faults())?,
             _ => {}
         }
         self.check_protected(before)?;
@@ -313,6 +314,16 @@ impl<'a> List<'a> {
             Some(index) => Err(format!("the description's {} is wrong", name_at(index))),
             None => Ok(()),
         }
+    }
+
+    /// The faults of level 4 are the model's; of the hash blocks, which it does not know, each level is judged at once.
+    fn expected_faults(&self) -> Vec<FaultRecord> {
+        let by_partition = self.opened.partitions.iter().zip(&self.models).map(|(partition, model)| {
+            let view = View::committed(&self.image, &self.opened, partition);
+            let [one, two, three] = [1, 2, 3].map(|level| view.verified_blocks(level));
+            [one, two, three, model.committed.verified.clone()]
+        });
+        list_of(&by_partition.collect::<Vec<_>>())
     }
 
     /// What signed opening answers under the host's key.
@@ -510,6 +521,7 @@ pub fn compare_subject(
     require(place.is_none(), || format!("the subject's image differs at {:#x}", place.unwrap_or(0)))?;
     require(*session == other_session, || "the subject's session differs".into())?;
     require(other.buffer == outcome.buffer, || "the subject's buffer differs".into())?;
+    require(other.row == outcome.row, || "the subject's row differs".into())?;
     let index = (0..other.description.len()).find(|index| other.description[*index] != outcome.description[*index]);
     require(index.is_none(), || format!("the subject's description differs: {}", name_at(index.unwrap_or(0))))
 }

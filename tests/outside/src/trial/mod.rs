@@ -3,6 +3,7 @@
 
 pub mod call;
 mod digest;
+pub mod faults;
 mod full_bits;
 mod leftovers;
 pub mod list;
@@ -24,7 +25,7 @@ use crate::rules::header::LONGEST_IMAGE;
 use crate::rules::opening::{open, Opened};
 use crate::rules::session::{Session, SessionBytes, SESSION_LENGTH};
 use crate::subject::{Rules, Subject};
-use call::{Call, CALL_KINDS, UNTOUCHED_DESCRIPTION};
+use call::{Call, Outcome, CALL_KINDS, UNTOUCHED_DESCRIPTION};
 use digest::{run_digest_case, run_long_message};
 use list::{compare_subject, List};
 use properties::require;
@@ -65,8 +66,8 @@ pub fn run_case(seed: u64, subject: Option<&dyn Subject>, tally: &mut Tally) -> 
 /// How often every run tries each damage, so that each of its values comes up.
 const TRIES_OF_EACH_DAMAGE: u64 = 40;
 
-/// Cases that every run must have tried: each damage, levels of bits that are full, leftovers in the header, the limits of an
-/// image's length, each bit of a signature, a long message.
+/// Cases that every run must have tried: each damage, levels of bits that are full, faults on every level, leftovers in the header,
+/// the limits of an image's length, each bit of a signature, a long message.
 pub fn run_fixed_cases(subject: Option<&dyn Subject>, tally: &mut Tally) -> Result<(), String> {
     let random = &mut Random::new(0);
     for damage in DAMAGES {
@@ -77,6 +78,7 @@ pub fn run_fixed_cases(subject: Option<&dyn Subject>, tally: &mut Tally) -> Resu
         }
     }
     full_bits::run(subject, tally)?;
+    faults::run(subject, tally)?;
     leftovers::run(subject, tally).map_err(|complaint| format!("leftovers: {complaint}"))?;
     let mut image = valid_image(&mut Random::new(0), &Wanted::default()).image;
     let signing_key = SigningKey::choose(random, &image);
@@ -117,20 +119,19 @@ fn any_image(
 ) -> Result<(), String> {
     match open(&image) {
         Ok(opened) => {
-            let versions = versions(&image, &opened);
-            List::new(random, Sample { image, opened, versions }, subject, tally).run(random, 6)
+            let sample = sample_of(image, opened);
+            List::new(random, sample, subject, tally).run(random, 6)
         }
         Err(refusal) => refused_image(random, image, refusal.number(), subject, tally),
     }
 }
 
-fn versions(image: &[u8], opened: &Opened) -> Vec<Version> {
-    let view = |partition| View::committed(image, opened, partition);
-    opened
-        .partitions
-        .iter()
-        .map(|partition| Version { bytes: view(partition).data(), verified: view(partition).verified_blocks(4) })
-        .collect()
+/// What the committed view of an image shows.
+fn sample_of(image: Vec<u8>, opened: Opened) -> Sample {
+    let views = || opened.partitions.iter().map(|partition| View::committed(&image, &opened, partition));
+    let versions = views().map(|view| Version { bytes: view.data(), verified: view.verified_blocks(4) }).collect();
+    let hash_verified = views().map(|view| [1, 2, 3].map(|level| view.verified_blocks(level))).collect();
+    Sample { image, opened, versions, hash_verified }
 }
 
 /// Every call but abandon, signed opening and the ones for signing answers opening's `number`, whatever its arguments and
@@ -147,7 +148,7 @@ fn refused_image(
         signing_key.sign(&mut image);
     }
     for kind in 0..CALL_KINDS {
-        let call = Call::of_kind(random, None, &signing_key, kind);
+        let call = Call::of_kind(random, &image, None, &signing_key, kind);
         let session = choose_session(random, &image);
         try_refused(&image, session, &call, number, subject, tally)?;
     }
@@ -181,6 +182,9 @@ fn try_refused(
         }
         _ => answered(number)?,
     }
+    let handed_back =
+        matches!(call, Call::Abandon) || outcome.accepted() || outcome == Outcome::refused(call, outcome.answer);
+    require(handed_back, || format!("{call} changed what it was lent"))?;
     let may_change = matches!(call, Call::Abandon);
     require(may_change || session == session_before, || format!("{call} changed the session"))?;
     require(after == image, || format!("{call} changed the image"))

@@ -1,6 +1,6 @@
 //! How often each call gave each answer, so that a run shows what it has tried.
 
-pub const CALLS: [&str; 16] = [
+pub const CALLS: [&str; 17] = [
     "open",
     "read committed",
     "read staged",
@@ -14,6 +14,7 @@ pub const CALLS: [&str; 16] = [
     "signing digest",
     "open signed",
     "commit signed",
+    "faults",
     "digest start",
     "digest feed",
     "digest finish",
