@@ -26,7 +26,8 @@ extern "C" {
 
 /*
  * Answers. The low 8 bits of an answer are 0 if the call is accepted and else the refusal's number; the bits above are a value: for an
- * accepted teplovist_verified 1 for yes and 0 for no, for an accepted teplovist_count_verified the count, for an accepted
+ * accepted teplovist_verified 1 for yes and 0 for no, for an accepted teplovist_count_verified the count, for an accepted teplovist_faults the
+ * number of all faults, for an accepted
  * teplovist_signing_block the block's length, for the refusals 10 and 11 the lowest block of level 4 to which they apply, and else 0. The
  * first check that fails decides; a call that is refused changes nothing.
  */
@@ -176,6 +177,21 @@ uint64_t teplovist_verified(const uint8_t *image, size_t image_length, uint64_t 
 
 /* How many blocks of a partition's level 4 are verified, as the active table has it. Refusals: 8. */
 uint64_t teplovist_count_verified(const uint8_t *image, size_t image_length, uint64_t partition);
+
+/* A block that is not verified: its partition (0 is A and 1 is B), its level (1 to 4) and its number. */
+typedef struct {
+    uint64_t partition;
+    uint64_t level;
+    uint64_t block;
+} teplovist_fault;
+
+/*
+ * The fault list: every block of levels 1 to 4 of every partition that is not verified, as the active table has it; below a hash block that is not
+ * verified each block is a fault. Partition A comes first, then the levels from 1 up, then the blocks by number. The row, of row_length records,
+ * gets the first ones, as far as it goes; records past the last fault are left alone. The value of the answer is the number of all faults, also
+ * where the row is shorter. Refusals: only those of opening; the row is untouched then.
+ */
+uint64_t teplovist_faults(const uint8_t *image, size_t image_length, teplovist_fault *row, size_t row_length);
 
 /* Starts a session: stages a copy of the committed view, and remembers the header. Refusals: 13 if begun. */
 uint64_t teplovist_begin(uint8_t *image, size_t image_length, uint8_t *session);

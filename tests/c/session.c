@@ -243,6 +243,75 @@ static void expect_committed(const uint8_t *image, size_t length, struct level4 
     free(buffer);
 }
 
+/* ---- the fault list */
+
+/* A list that is as long as it must be, and one record more, which stays as it was. */
+static teplovist_fault *faults_of(const uint8_t *image, size_t length, uint64_t *number) {
+    teplovist_fault *row, untouched;
+    uint64_t answer = teplovist_faults(image, length, &untouched, 0);
+    expect("faults", TEPLOVIST_ACCEPTED, TEPLOVIST_REFUSAL(answer));
+    *number = TEPLOVIST_VALUE(answer);
+    row = allocated((*number + 1) * sizeof *row);
+    memset(row, 0xA5, (*number + 1) * sizeof *row);
+    memset(&untouched, 0xA5, sizeof untouched);
+    expect("the faults of a longer row", answer, teplovist_faults(image, length, row, *number + 1));
+    expect_bytes("the record past the last fault", (uint8_t *)&untouched, (uint8_t *)&row[*number], sizeof untouched);
+    return row;
+}
+
+/* The faults are in order, and those of a level 4 are the blocks that are not verified. */
+static void expect_faults(const uint8_t *image, size_t length, struct level4 level) {
+    uint64_t number, i, b = 0, blocks = blocks_of(level);
+    teplovist_fault *row = faults_of(image, length, &number);
+    for (i = 0; i < number; i++) {
+        const teplovist_fault f = row[i], *before = i == 0 ? NULL : &row[i - 1];
+        expect("a fault's partition", 1, f.partition < 2);
+        expect("a fault's level", 1, f.level >= 1 && f.level <= 4);
+        if (before != NULL)
+            expect("the order of the faults", 1,
+                   before->partition < f.partition ||
+                       (before->partition == f.partition &&
+                        (before->level < f.level || (before->level == f.level && before->block < f.block))));
+        if (f.partition != level.partition || f.level != 4)
+            continue;
+        for (; b < f.block; b++)
+            expect("a block that is not in the list", 1, TEPLOVIST_VALUE(teplovist_verified(image, length, level.partition, b)));
+        expect("a block in the list", 0, TEPLOVIST_VALUE(teplovist_verified(image, length, level.partition, b++)));
+    }
+    for (; b < blocks; b++)
+        expect("a block that is not in the list", 1, TEPLOVIST_VALUE(teplovist_verified(image, length, level.partition, b)));
+    free(row);
+}
+
+/* A row that is too short holds the first faults, and the number is that of all. */
+static void expect_short_row(const uint8_t *image, size_t length) {
+    uint64_t number;
+    teplovist_fault *row = faults_of(image, length, &number), first;
+    memset(&first, 0xA5, sizeof first);
+    if (number > 0) {
+        expect("the faults of a short row", number, TEPLOVIST_VALUE(teplovist_faults(image, length, &first, 1)));
+        expect_bytes("the first fault", (uint8_t *)row, (uint8_t *)&first, sizeof first);
+    }
+    ANSWERS(TEPLOVIST_LENGTH, teplovist_faults(image, 0x1FF, row, number + 1));
+    free(row);
+}
+
+/* A byte is changed here and there: the list of an image that still opens is as it must be. */
+static void expect_damage(const uint8_t *image, size_t length, struct level4 level) {
+    uint64_t numbers[TEPLOVIST_DESCRIPTION_LENGTH];
+    uint8_t *damaged = allocated(length);
+    size_t place;
+    for (place = 0x200; place < length; place += length / 40 + 1) {
+        memcpy(damaged, image, length);
+        damaged[place] ^= 0x10;
+        if (TEPLOVIST_REFUSAL(teplovist_open(damaged, length, numbers)) != TEPLOVIST_ACCEPTED)
+            continue;
+        expect_faults(damaged, length, level);
+        expect_short_row(damaged, length);
+    }
+    free(damaged);
+}
+
 static void expect_limits(const uint8_t *image, size_t length, struct level4 level) {
     uint8_t *buffer = allocated(level.size + 1);
     ANSWERS(TEPLOVIST_OUT_OF_RANGE, teplovist_verified(image, length, level.partition, blocks_of(level)));
@@ -509,6 +578,8 @@ static void run(uint8_t *image, size_t length) {
     for (q = 0; q < description[TEPLOVIST_PARTITIONS]; q++) {
         struct level4 level = level4_of(q);
         expect_committed(image, length, level);
+        expect_faults(image, length, level);
+        expect_damage(image, length, level);
         expect_limits(image, length, level);
         if (level.external)
             expect_no_write(image, length, level);

@@ -28,6 +28,7 @@ SESSION_CALLS = ['begin', 'write', *UNITS]
 LENT = {
     'container::blocks::signing_block': {3: 'block'},
     'container::blocks::signing_digest': {3: 'digest'},
+    'container::reading::faults': {2: 'row'},
     'container::reading::read_committed': {4: 'buffer'},
     'container::reading::read_staged': {5: 'buffer'},
     'container::sessions::begin': {1: 'image'},
@@ -38,6 +39,7 @@ LENT = {
     'gateway::teplovist_open_signed': {4: 'description'},
     'gateway::teplovist_read_committed': {4: 'buffer'},
     'gateway::teplovist_read_staged': {5: 'buffer'},
+    'gateway::teplovist_faults': {2: 'row'},
     'gateway::teplovist_begin': {1: 'image', 2: 'session'},
     'gateway::teplovist_write': {1: 'image'},
     'gateway::teplovist_commit': {1: 'image', 2: 'session'},

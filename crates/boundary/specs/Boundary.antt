@@ -33,7 +33,7 @@ use Rattle.steps.specs.Calls.{After}
 
 -- ---- an answer is one number of 64 bits
 
--- the low 8 bits are the refusal's number, 0 if accepted; the bits above carry the value. A block's number or a count is below 2^26, so the
+-- the low 8 bits are the refusal's number, 0 if accepted; the bits above carry the value. A block's number or a count is below 2^30, so the
 -- remainder changes nothing; it makes the rule total
 unfoldable pub packed : (number value : ℕ) → ℕ
 packed number value = number % 2 ^ 8 + 2 ^ 8 * (value % 2 ^ 56)

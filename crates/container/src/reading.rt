@@ -1,4 +1,6 @@
 // The calls that read. None of them changes the image; a refused read leaves its buffer as it was.
+use faults::Fault;
+use faults::listing::list;
 use layout::Opened;
 use layout::Outcome;
 use layout::Refusal;
@@ -16,6 +18,7 @@ use views::places::staged_view;
 ghost use mathlib.Core.Path.{_≡_};
 ghost use Rattle.layout.specs.Opening.{opened};
 ghost use Rattle.signatures.specs.Signatures.{openedSigned};
+ghost use Rattle.faults.specs.Faults as faulty;
 ghost use Rattle.steps.specs.Calls.{readCommitted, readStaged, isVerified, countVerified};
 
 // Every field of the image that opening reads, or the first refusal of 1 to 7 that applies.
@@ -98,4 +101,12 @@ pub fn count_verified(image: &[u8], partition: u64) -> Count
         return Count::Refused(Refusal::NoPartition);
     }
     Count::Blocks(ivfc::verifying::count_verified(committed_view(c, partition), image))
+}
+
+// The fault list: every block of levels 1 to 4 of every partition that is not verified, as the active table has it. The row gets the first
+// ones, as far as it goes; the answer is the number of all.
+pub fn faults(image: &[u8], row: &mut [Fault]) -> Count
+    ensures { λ r. ⌜ (r ≡ faulty.countFaults (now (image .entry))) × (now (row .exit) ≡ faulty.rowAfter (faulty.faults (now (image .entry))) (now (row .entry))) ⌝ }
+{
+    list(image, row)
 }

@@ -16,10 +16,12 @@ use boundary::signers::signer_of;
 use container::blocks;
 use container::reading;
 use container::sessions;
+use faults::Fault;
 use signing::digests::advance;
 use signing::digests::finish;
 use signing::digests::start;
 ghost use mathlib.Core.Path.{_≡_};
+ghost use Rattle.faults.specs.Faults.{countFaults, faults, rowAfter};
 ghost use Rattle.layout.specs.Opening.{opened};
 ghost use Rattle.sha256.specs.Running.{stateOf, fresh};
 ghost use Rattle.signing.specs.Calls.{signed, outcomeOf, builtAs, blockLeft, digestLeft};
@@ -100,6 +102,15 @@ pub extern "C" fn teplovist_count_verified(image: &[u8], partition: u64) -> u64
     ensures { λ r. ⌜ r ≡ countAnswer (calls.countVerified (now (image .entry)) partition) ⌝ }
 {
     count_answer(reading::count_verified(image, partition))
+}
+
+// The fault list: the row gets the first faults, the answer is the number of all.
+#[no_mangle]
+pub extern "C" fn teplovist_faults(image: &[u8], row: &mut [Fault]) -> u64
+    ensures { λ r. ⌜ (r ≡ countAnswer (countFaults (now (image .entry)))) × (now (row .exit) ≡ rowAfter (faults (now (image .entry))) (now (row .entry))) ⌝ }
+{
+    let count = reading::faults(image, row);
+    count_answer(count)
 }
 
 // Starts a session.

@@ -16,17 +16,20 @@ use Rattle.views.specs.Places.{partitions, partitionOf, committedView, stagedVi
 use Rattle.layout.specs.declared.Outcome.the-variants as outcome
 use Rattle.steps.specs.Sessions.{begunImage, tableStaged, writeOutcome}
 use Rattle.commits.specs.Committing.{headerCommitted}
+use Rattle.faults.specs.Faults.{faultsOf}
 use Rattle.history.specs.Model.{versionOf, laidOver, Form}
 use Rattle.history.specs.Theorem.{Left}
 use Rattle.history.proofs.CallCases.{landedImage}
 
--- an image that differs from another in free bytes only opens alike, has the same header, signature and committed views, and no more free bytes
+-- an image that differs from another in free bytes only opens alike, has the same header, signature, committed views and faults, and no more
+-- free bytes
 pub record FrameLaws (c : Container) (image left : List ℕ) : Type 0 where
   pub opens : opened left ≡ opening.Valid c
   pub header : headerBytes left ≡ headerBytes image
   pub front : part left signatureRange ≡ part image signatureRange
   pub free : (i : ℕ) → Free (spaceOf c) left i → Free (spaceOf c) image i
   pub version : (q : ℕ) → q < partitions c → versionOf (committedView c q) left ≡ versionOf (committedView c q) image
+  pub faults : faultsOf c left ≡ faultsOf c image
 
 -- begin stores to free bytes, stages the table, and what it stages is what is committed
 pub record BeginLaws (c : Container) (image : List ℕ) : Type 0 where

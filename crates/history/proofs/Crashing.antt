@@ -18,6 +18,8 @@ use Rattle.steps.specs.declared.Verdict.the-variants as verdict
 use Rattle.steps.specs.declared.Count.the-variants as count
 use Rattle.steps.specs.Reading.{readFrom, verdictOn, countIn}
 use Rattle.steps.specs.Calls.{After, unread, readIn, readCommitted, verifiedIn, isVerified, countVerifiedIn, countVerified}
+use Rattle.faults.specs.declared.Fault.{Fault}
+use Rattle.faults.specs.Faults.{faultsIn, faults, countFaultsIn, countFaults}
 use Rattle.signing.specs.declared.Signer.{Signer}
 use Rattle.signing.specs.Calls.{Answer, Signs, signed}
 use Rattle.signing.specs.Calls as signing
@@ -89,12 +91,14 @@ module _ (W : CallLaws) where
 
   -- whatever is left of an image, if it has its bytes where they are not free, answers as it did
   pub crash : (image left : List ℕ) (c : Container) → opened image ≡ opening.Valid c → Left c image left → SameAnswers image left
-  unfolding readCommitted isVerified countVerified
+  unfolding readCommitted isVerified countVerified countFaults faults
   crash image left c o k = record {
     opening = same-opened;
     reads = λ q place buffer. ap (readIn left q place buffer) o' ∙ reads q place buffer (ltb q (partitions c)) refl ∙ sym (ap (readIn image q place buffer) o);
     questions = λ q b. ap (verifiedIn left q b) o' ∙ questions q b (ltb q (partitions c)) refl ∙ sym (ap (verifiedIn image q b) o);
     counts = λ q. ap (countVerifiedIn left q) o' ∙ counts q (ltb q (partitions c)) refl ∙ sym (ap (countVerifiedIn image q) o);
+    faultCount = ap (countFaultsIn left) o' ∙ ap (λ (l : List Fault). count.Blocks (length l)) (W .frame image left c o k .faults) ∙ sym (ap (countFaultsIn image) o);
+    faultList = ap (faultsIn left) o' ∙ W .frame image left c o k .faults ∙ sym (ap (faultsIn image) o);
     signing = same-signed image left (k .size) (W .frame image left c o k .header);
   }
     where

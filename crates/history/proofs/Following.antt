@@ -17,11 +17,13 @@ use Rattle.steps.specs.declared.Count.the-variants as count
 use Rattle.steps.specs.declared.Session.{Session}
 use Rattle.steps.specs.Sessions.{idle, begunImage, current, tableStaged}
 use Rattle.steps.specs.Calls.{After, readCommitted, readStaged, isVerified, countVerified}
-use Rattle.history.specs.Model.{Version, versionOf, laidOver, Form, Query, Open, ReadCommitted, ReadStaged, IsVerified, CountVerified, SigningBlock, SigningDigest, Call, Ask, Begin, Write, Commit, Abandon, Answer, Reading, Judging, Counting, Ruling, Accepted, Refused, Model, advance, followed, readOf, readStagedOf, judgedOf, countTrue, says}
+use Rattle.faults.specs.Faults.{kept, faults}
+use Rattle.faults.specs.Laws.{ofLevel}
+use Rattle.history.specs.Model.{Version, versionOf, laidOver, Form, Query, Open, ReadCommitted, ReadStaged, IsVerified, CountVerified, ListFaults, SigningBlock, SigningDigest, Call, Ask, Begin, Write, Commit, Abandon, Answer, Reading, Judging, Counting, Ruling, Accepted, Refused, Model, advance, followed, readOf, readStagedOf, judgedOf, countTrue, says, unverified}
 use Rattle.history.specs.Run.{State, reply, perform, ruled, next, after, events}
 use Rattle.history.specs.Theorem.{Has, Start, committedIn, stagedIn, Follows, History, Left}
 use Rattle.history.proofs.VersionLaws.{never}
-use Rattle.history.proofs.ReadLaws.{read-committed, read-staged, read-idle, judged, counted}
+use Rattle.history.proofs.ReadLaws.{read-committed, read-staged, read-idle, judged, counted, faulty-version}
 use Rattle.history.proofs.CallCases.{landedImage, not-both, refused, idles, begun-by, written-by, committed-by, abandoned-by, idle-rests}
 use Rattle.history.proofs.CallLaws.{FrameLaws, WriteLaws, CommitLaws, CallLaws}
 
@@ -205,8 +207,13 @@ module _ (W : CallLaws) where
         let o = own q p (Counting (count.Blocks (countTrue (m .committed .verified)))) a e in
         ap Counting (ap (countVerified (st .image)) (o .0)
         ∙ counted (st .image) c (g .has .opens) p (g .has .there) ∙ ap (λ (v : Version). count.Blocks (countTrue (v .verified))) (g .committed)) ∙ o .1
+    answers (ListFaults row) a e = never e
     answers (SigningBlock signer buffer) a e = never e
     answers (SigningDigest signer buffer) a e = never e
+
+    -- the faults of the partition's level 4
+    pub faulty-of : kept (ofLevel p 4) (faults (st .image)) ≡ unverified p 0 (m .committed .verified)
+    faulty-of = faulty-version (st .image) c (g .has .opens) p (g .has .there) ∙ ap (λ (v : Version). unverified p 0 (v .verified)) (g .committed)
 
     pub follows-of : Follows p st m
     follows-of = record {
@@ -228,4 +235,5 @@ module _ (W : CallLaws) where
   history p st start calls = record {
     follows = λ before rest e. follows-of p _ _ (agrees-on p before st _ (agrees-first p st start));
     answers = λ before rest c a e. answers p _ _ (agrees-on p before st _ (agrees-first p st start)) c a;
+    faulty = λ before rest e. faulty-of p _ _ (agrees-on p before st _ (agrees-first p st start));
   }

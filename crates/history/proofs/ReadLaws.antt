@@ -1,10 +1,12 @@
 -- The reads and questions of a partition that there is answer as its version says. Assumes nothing.
-use mathlib.Core.Path.{_≡_, ap, _∙_}
-use mathlib.Core.Bool.{true, false}
-use mathlib.Core.List.{List}
-use Prim.Native.Nat.{ℕ, _<_}
+use mathlib.Core.Path.{_≡_, refl, sym, ap, _∙_}
+use mathlib.Core.Bool.{Bool, true, false, not, cond}
+use mathlib.Core.List.{List, _∷_}
+use Prim.Native.Nat.{ℕ, zero, suc, _<_}
+use native.Mathlib.Omega.{arith}
 use borrow.Author.Tests.{lt-ltb}
 use Rattle.layout.specs.declared.Container.{Container}
+use Rattle.layout.specs.declared.Opened.{Opened}
 use Rattle.layout.specs.declared.Opened.the-variants as opening
 use Rattle.layout.specs.declared.Refusal.the-variants.{SessionState}
 use Rattle.layout.specs.Opening.{opened}
@@ -13,8 +15,31 @@ use Rattle.steps.specs.declared.Session.{Session}
 use Rattle.steps.specs.declared.Count.the-variants as count
 use Rattle.steps.specs.Sessions.{current}
 use Rattle.steps.specs.Calls.{unread, readIn, readCommitted, readStagedIn, readStaged, verifiedIn, isVerified, countVerifiedIn, countVerified}
-use Rattle.history.specs.Model.{versionOf, readOf, judgedOf, countTrue}
+use Rattle.number.specs.Blocks.{blocks}
+use Rattle.ivfc.specs.Views.{levelOf, verified}
+use Rattle.faults.specs.declared.Fault.{Fault}
+use Rattle.faults.specs.Faults.{blocksFrom, isFault, kept, faultsIn, faults}
+use Rattle.faults.specs.Laws.{ofLevel}
+use Rattle.faults.proofs.ListLaws.{at, kept-yes, kept-no, kept-none}
+use Rattle.faults.proofs.LevelLaws.{level-faults}
+use Rattle.history.specs.Model.{flags, versionOf, readOf, judgedOf, countTrue, unverified}
 use Rattle.history.proofs.VersionLaws.{read-version, judged-version, count-version}
+
+-- of the blocks of a level 4, those that are not verified
+kept-flags : (P : Fault → Bool) (good : ℕ → Bool) (q : ℕ) → ((b : ℕ) → P (at q 4 b) ≡ not (good b)) → (b n : ℕ)
+    → kept P (blocksFrom q 4 b n) ≡ unverified q b (flags good b n)
+unfolding blocksFrom flags unverified
+kept-flags P good q says b zero = kept-none P
+kept-flags P good q says b (suc n) = go (good b) refl (kept-flags P good q says (suc b) n)
+  where
+    go : (t : Bool) → good b ≡ t → kept P (blocksFrom q 4 (suc b) n) ≡ unverified q (suc b) (flags good (suc b) n)
+        → kept P (at q 4 b ∷ blocksFrom q 4 (suc b) n) ≡ cond (good b) (unverified q (suc b) (flags good (suc b) n)) (at q 4 b ∷ unverified q (suc b) (flags good (suc b) n))
+    go true v e =
+        kept-no P (at q 4 b) (blocksFrom q 4 (suc b) n) (says b ∙ ap not v) ∙ e
+        ∙ ap (λ (t : Bool). cond t (unverified q (suc b) (flags good (suc b) n)) (at q 4 b ∷ unverified q (suc b) (flags good (suc b) n))) (sym v)
+    go false v e =
+        kept-yes P (at q 4 b) (blocksFrom q 4 (suc b) n) (says b ∙ ap not v) ∙ ap (λ (l : List Fault). at q 4 b ∷ l) e
+        ∙ ap (λ (t : Bool). cond t (unverified q (suc b) (flags good (suc b) n)) (at q 4 b ∷ unverified q (suc b) (flags good (suc b) n))) (sym v)
 
 module _ (image : List ℕ) (c : Container) (o : opened image ≡ opening.Valid c) (q : ℕ) (there : q < partitions c) where
   pub read-committed : (place : ℕ) (buffer : List ℕ) → readCommitted image q place buffer ≡ readOf (versionOf (committedView c q) image) place buffer
@@ -39,3 +64,10 @@ module _ (image : List ℕ) (c : Container) (o : opened image ≡ opening.Valid 
   pub counted : countVerified image q ≡ count.Blocks (countTrue (versionOf (committedView c q) image .verified))
   unfolding countVerified
   counted = ap (countVerifiedIn image q) o ∙ rw (lt-ltb q (partitions c) there) (count-version (committedView c q) image)
+
+  -- the fault list has the version's blocks that are not verified
+  pub faulty-version : kept (ofLevel q 4) (faults image) ≡ unverified q 0 (versionOf (committedView c q) image .verified)
+  unfolding faults versionOf levelOf
+  faulty-version =
+      ap (λ (a : Opened). kept (ofLevel q 4) (faultsIn image a)) o ∙ level-faults c q 4 image there (omega arith) (omega arith)
+      ∙ kept-flags (isFault c image) (verified (committedView c q) image 4) q (λ b. refl) 0 (blocks (committedView c q .level4))

@@ -57,6 +57,9 @@ module _ (v w : View) (s t : List ℕ) (n : ℕ) (rules : ViewRules v n) (seen :
       by true e = seen .outer e y k
       by false e = inner-level (v .level4) (w .level4) y (seen .level4) (rules .inner4 e) k
 
+  pub same-verified : (i b : ℕ) → i ≤ 4 → b < blocks (levelOf v i) → verified v s i b ≡ verified w t i b
+  same-verified = view-verified-cong v w s t n rules same-levels same-content
+
   pub same-version : versionOf v s ≡ versionOf w t
   unfolding versionOf levelOf
   same-version =
@@ -65,6 +68,6 @@ module _ (v w : View) (s t : List ℕ) (n : ℕ) (rules : ViewRules v n) (seen :
       ∙ ap (λ (l : Level). bytes (contentOf w t 4) 0 (l .size)) (seen .level4) in
       let f : flags (verified v s 4) 0 (blocks (v .level4)) ≡ flags (verified w t 4) 0 (blocks (w .level4)) =
       flags-cong (verified v s 4) (verified w t 4) 0 (blocks (v .level4))
-      (λ k h. view-verified-cong v w s t n rules same-levels same-content 4 (0 + k) (omega arith) (omega arith))
+      (λ k h. same-verified 4 (0 + k) (omega arith) (omega arith))
       ∙ ap (λ (l : Level). flags (verified w t 4) 0 (blocks l)) (seen .level4) in
       λ i. record { level = seen .level4 i; bytes = b i; verified = f i }

@@ -24,6 +24,7 @@ use Rattle.steps.specs.declared.Count.{Count}
 use Rattle.steps.specs.declared.Count.the-variants as count
 use Rattle.steps.specs.Reading.{Read, said}
 use Rattle.steps.specs.Calls.{unread}
+use Rattle.faults.specs.declared.Fault.{Fault}
 use Rattle.signing.specs.declared.Signer.{Signer}
 use Rattle.signing.specs.declared.Built.{Built}
 use Rattle.signing.specs.declared.Built.the-variants as built
@@ -69,12 +70,14 @@ pub data Form : Type 0 where
   Plain : Form
   Signed : (key : List ℕ) → (signer : Signer) → Form
 
--- a call with its arguments, but no image and no session. A query only reads; a read's length is its buffer's
+-- a call with its arguments, but no image and no session. A query only reads; a read's length is its buffer's, and a list's its
+-- row's
 pub data Query : Type 0 where
   Open : Form → Query
   ReadCommitted ReadStaged : (partition place : ℕ) → (buffer : List ℕ) → Query
   IsVerified : (partition block : ℕ) → Query
   CountVerified : (partition : ℕ) → Query
+  ListFaults : (row : List Fault) → Query
   SigningBlock SigningDigest : (signer : Signer) → (buffer : List ℕ) → Query
 
 pub data Call : Type 0 where
@@ -84,12 +87,13 @@ pub data Call : Type 0 where
   Commit : Form → Call
   Abandon : Call
 
--- what a call answers, in the types of crate container, and what its buffer holds then
+-- what a call answers, in the types of crate container, and what its buffer or its row holds then
 pub data Answer : Type 0 where
   Opening : Opened → Answer
   Reading : Read → Answer
   Judging : Verdict → Answer
   Counting : Count → Answer
+  Listing : Count → (row : List Fault) → Answer
   Building : Built → (buffer : List ℕ) → Answer
   Digesting : Outcome → (buffer : List ℕ) → Answer
   Stepping : Outcome → Answer
@@ -111,6 +115,8 @@ ruling (Judging verdict.No) = Accepted
 ruling (Judging (verdict.Refused r)) = Refused
 ruling (Counting (count.Blocks n)) = Accepted
 ruling (Counting (count.Refused r)) = Refused
+ruling (Listing (count.Blocks n) row) = Accepted
+ruling (Listing (count.Refused r) row) = Refused
 ruling (Building (built.Bytes n) buffer) = Accepted
 ruling (Building (built.Refused r) buffer) = Refused
 ruling (Digesting outcome buffer) = rulingOf outcome
@@ -177,12 +183,19 @@ unfoldable pub countTrue : List Bool → ℕ
 countTrue [] = 0
 countTrue (v ∷ rest) = cond v 1 0 + countTrue rest
 
--- what the model says that a query answers: a read or a question of its partition; of others it says nothing
+-- the faults of level 4: from block b on, those that are not verified
+unfoldable pub unverified : (p b : ℕ) → List Bool → List Fault
+unverified p b [] = []
+unverified p b (v ∷ rest) = cond v (unverified p (suc b) rest) (record { partition = p; level = 4; block = b } ∷ unverified p (suc b) rest)
+
+-- what the model says that a query answers: a read or a question of its partition; of others it says nothing, and of the fault list only which
+-- faults of its own level 4 are in it (Theorem's History)
 unfoldable pub says : (p : ℕ) → Model → Query → Option Answer
 says p m (Open form) = none
 says p m (ReadCommitted q place buffer) = cond (eqb q p) (some (Reading (readOf (m .committed) place buffer))) none
 says p m (ReadStaged q place buffer) = cond (eqb q p) (some (Reading (readStagedOf (m .staged) place buffer))) none
 says p m (IsVerified q b) = cond (eqb q p) (some (Judging (judgedOf (m .committed) b))) none
 says p m (CountVerified q) = cond (eqb q p) (some (Counting (count.Blocks (countTrue (m .committed .verified))))) none
+says p m (ListFaults row) = none
 says p m (SigningBlock signer buffer) = none
 says p m (SigningDigest signer buffer) = none

@@ -11,8 +11,9 @@ use Rattle.layout.specs.Opening.{opened}
 use Rattle.signatures.specs.Signatures.{openedSigned}
 use Rattle.steps.specs.declared.Session.{Session}
 use Rattle.steps.specs.Calls.{After, readCommitted, readStaged, isVerified, countVerified, begin, write, commit, commitSigned, abandon}
+use Rattle.faults.specs.Faults.{countFaults, faults, rowAfter}
 use Rattle.signing.specs.Calls.{signed, builtAs, outcomeOf, blockLeft, digestLeft}
-use Rattle.history.specs.Model.{Form, Plain, Signed, Query, Open, ReadCommitted, ReadStaged, IsVerified, CountVerified, SigningBlock, SigningDigest, Call, Ask, Begin, Write, Commit, Abandon, Answer, Opening, Reading, Judging, Counting, Building, Digesting, Stepping, Ruling, Accepted, Refused, ruling, Event, Did}
+use Rattle.history.specs.Model.{Form, Plain, Signed, Query, Open, ReadCommitted, ReadStaged, IsVerified, CountVerified, ListFaults, SigningBlock, SigningDigest, Call, Ask, Begin, Write, Commit, Abandon, Answer, Opening, Reading, Judging, Counting, Listing, Building, Digesting, Stepping, Ruling, Accepted, Refused, ruling, Event, Did}
 
 pub record State : Type 0 where
   pub image : List ℕ
@@ -39,6 +40,7 @@ reply (ReadCommitted q place buffer) st = Reading (readCommitted (st .image) q p
 reply (ReadStaged q place buffer) st = Reading (readStaged (st .image) (st .session) q place buffer)
 reply (IsVerified q b) st = Judging (isVerified (st .image) q b)
 reply (CountVerified q) st = Counting (countVerified (st .image) q)
+reply (ListFaults row) st = Listing (countFaults (st .image)) (rowAfter (faults (st .image)) row)
 reply (SigningBlock signer buffer) st = Building (builtAs (signed (st .image) signer)) (blockLeft (signed (st .image) signer) buffer)
 reply (SigningDigest signer buffer) st = Digesting (outcomeOf (signed (st .image) signer)) (digestLeft (signed (st .image) signer) buffer)
 

@@ -18,9 +18,11 @@ use Rattle.ivfc.specs.Views.{contentOf, verified}
 use Rattle.views.specs.Places.{partitions, partitionOf, committedView, stagedView, spaceOf}
 use Rattle.layout.specs.declared.Outcome.the-variants as outcome
 use Rattle.steps.specs.Calls.{readCommitted, isVerified, countVerified}
+use Rattle.faults.specs.Faults.{kept, faults, countFaults}
+use Rattle.faults.specs.Laws.{ofLevel}
 use Rattle.signing.specs.declared.Signer.{Signer}
 use Rattle.signing.specs.Calls.{signed, outcomeOf}
-use Rattle.history.specs.Model.{Version, versionOf, Form, Plain, Signed, Query, Call, Ask, Begin, Commit, Abandon, Answer, Stepping, Accepted, Event, Model, followed, says}
+use Rattle.history.specs.Model.{Version, versionOf, Form, Plain, Signed, Query, Call, Ask, Begin, Commit, Abandon, Answer, Stepping, Accepted, Event, Model, followed, unverified, says}
 use Rattle.history.specs.Run.{State, openedAs, perform, ruled, next, after, events, begins, commits, lastValue}
 
 -- an image that opens, with a partition p whose level 4 is internal
@@ -60,6 +62,9 @@ pub record History (p : ℕ) (st : State) (start : Start p st) (calls : List Cal
   -- and each query answers what the model says
   pub answers : (before rest : List Call) (query : Query) (answer : Answer) → calls ≡ before ++ Ask query ∷ rest
       → says p (modelAfter p st start before) query ≡ some answer → perform (Ask query) (after before st) .answer ≡ answer
+  -- and the fault list has, of the partition's level 4, the blocks that are not verified in the model
+  pub faulty : (before rest : List Call) → calls ≡ before ++ rest
+      → kept (ofLevel p 4) (faults (after before st .image)) ≡ unverified p 0 (modelAfter p st start before .committed .verified)
 
 -- for every list, however many begins it has
 abbrev pub HistoryTheorem : Type 0
@@ -71,12 +76,15 @@ HistoryTheorem = (p : ℕ) (st : State) (start : Start p st) (calls : List Call)
 -- agrees with the list's first one on the bytes that are not free; once it has landed, it is the one that the commit left. The unit of a plain
 -- commit is its header, 0x100 to 0x1FF; that of a signed one the first 0x200 bytes.
 
--- opening, plain and under every key and signer, the committed reads and questions of every partition, and signing, answer alike
+-- opening, plain and under every key and signer, the committed reads and questions of every partition, the fault list, and signing, answer
+-- alike
 pub record SameAnswers (image left : List ℕ) : Type 0 where
   pub opening : (form : Form) → openedAs form left ≡ openedAs form image
   pub reads : (q place : ℕ) (buffer : List ℕ) → readCommitted left q place buffer ≡ readCommitted image q place buffer
   pub questions : (q b : ℕ) → isVerified left q b ≡ isVerified image q b
   pub counts : (q : ℕ) → countVerified left q ≡ countVerified image q
+  pub faultCount : countFaults left ≡ countFaults image
+  pub faultList : faults left ≡ faults image
   pub signing : (signer : Signer) → signed left signer ≡ signed image signer
 
 -- an image that has another one's bytes where they are not free

@@ -69,7 +69,7 @@ fn unseen() -> Seen
 }
 
 // A memory of nothing.
-fn nothing_seen() -> Memory
+pub fn nothing_seen() -> Memory
     ensures { λ r. ⌜ ((view : declared.View) (image : List ℕ) (i last : ℕ) → Remembers view image i last r) ⌝ }
 {
     let none = unseen();
@@ -128,7 +128,7 @@ fn judge_below(view: View, image: &[u8], i: u64, first: u64, last: u64, above: u
 
 // The first of the blocks first to last of level i that is not verified, else last + 1. The blocks that hold their entries are judged before
 // them; what the memory knows is not hashed again.
-fn judge(view: View, image: &[u8], i: u64, first: u64, last: u64, memory: Memory) -> Judged
+pub fn judge(view: View, image: &[u8], i: u64, first: u64, last: u64, memory: Memory) -> Judged
     requires { ⌜ (ViewRules view (length (now image))) × (i ≤ 4) × (first ≤ last) × (last < blocks (levelOf view i)) × (Remembers view (now image) i last memory) ⌝ }
     ensures { λ r. ⌜ (r .end ≡ firstUnverified view (now (image .entry)) i first last) × (Remembers view (now (image .entry)) i last (r .memory)) ⌝ }
 {

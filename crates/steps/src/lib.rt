@@ -16,7 +16,7 @@ pub enum Verdict {
     Refused(Refusal),
 }
 
-// How many blocks are verified.
+// How many blocks are verified, or are faults.
 pub enum Count {
     Blocks(u64),
     Refused(Refusal),

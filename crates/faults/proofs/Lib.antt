@@ -1,0 +1,6 @@
+pub mod ListLaws
+pub mod SearchLaws
+pub mod LevelLaws
+mod LawsHold
+mod TurnLaws
+mod RowLaws
