@@ -2,7 +2,7 @@
 
 use crate::begun::Begun;
 use crate::boundary::Library;
-use crate::image::{blocks_within, filled, image_of, BLOCK};
+use crate::image::{blocks_within, filled, image_of, BLOCK, USUAL};
 use crate::measures::INSIDE;
 use crate::rows::{clock, print_cells};
 use crate::timing::{best_turns, per_call};
@@ -19,9 +19,9 @@ pub struct Growth {
 impl Growth {
     pub fn measured() -> Growth {
         let mut images = LENGTHS.map(|length| {
-            let blocks = blocks_within(length << 20);
+            let blocks = blocks_within(&USUAL, length << 20);
             let place = blocks / 2 * BLOCK + INSIDE;
-            (Begun::new(&Library, &image_of(&filled(blocks * BLOCK, length as u64))), place)
+            (Begun::new(&Library, &image_of(&USUAL, &filled(blocks * BLOCK, length as u64))), place)
         });
         let [one, eight, most] = &mut images;
         let data: [&[u8]; 2] = [&[1], &[2]];

@@ -8,11 +8,17 @@ use crate::rules::descriptor::{
 use crate::rules::header::{Kind, DIFF_OPENING, HEADER};
 
 /// A block of level 4.
-pub const BLOCK: usize = 1 << LOGS[3];
+pub const BLOCK: usize = 1 << USUAL.ivfc[3];
+
 /// The logarithms of IVFC levels 1 to 4 and of DPFS levels 2 and 3.
-const LOGS: [usize; 4] = [9, 9, 12, 12];
-const LEVEL2_LOG: usize = 7;
-const LEVEL3_LOG: usize = 12;
+pub struct Logs {
+    ivfc: [usize; 4],
+    dpfs: [usize; 2],
+}
+
+pub const USUAL: Logs = Logs { ivfc: [9, 9, 12, 12], dpfs: [7, 12] };
+/// The smallest blocks, but for the two levels that must lead up to a master hash of one entry.
+pub const SMALLEST: Logs = Logs { ivfc: [16, 16, 5, 5], dpfs: [2, 5] };
 
 /// Where the tables and the partition lie in the image, and the pieces in a table.
 const SECONDARY: usize = 0x200;
@@ -27,26 +33,29 @@ pub const TABLE_SIZE: usize = MASTER + MASTER_SIZE as usize;
 type Place = (usize, usize);
 
 /// Where everything lies in an image of so many blocks of level 4.
-struct Layout {
+struct Layout<'a> {
+    logs: &'a Logs,
     /// IVFC levels 1 to 4 in DPFS level 3.
     hash_levels: [Place; 4],
     /// One half of DPFS levels 1 to 3 in the partition.
     levels: [Place; 3],
 }
 
-impl Layout {
-    fn of(blocks: usize) -> Layout {
+impl Layout<'_> {
+    fn of(logs: &Logs, blocks: usize) -> Layout<'_> {
+        let [level2_log, level3_log] = logs.dpfs;
         let entries = |size: usize, log: usize| size.div_ceil(1 << log) * ENTRY as usize;
-        let size4 = blocks * BLOCK;
-        let size3 = entries(size4, LOGS[3]);
-        let size2 = entries(size3, LOGS[2]);
-        let size1 = entries(size2, LOGS[1]);
-        let place4 = (size1 + size2 + size3).next_multiple_of(BLOCK);
+        let size4 = blocks << logs.ivfc[3];
+        let size3 = entries(size4, logs.ivfc[3]);
+        let size2 = entries(size3, logs.ivfc[2]);
+        let size1 = entries(size2, logs.ivfc[1]);
+        let place4 = (size1 + size2 + size3).next_multiple_of(1 << logs.ivfc[3]);
         let half3 = place4 + size4;
-        let half2 = half3.div_ceil(8 << LEVEL3_LOG).next_multiple_of(1 << LEVEL2_LOG);
-        let half1 = half2.div_ceil(8 << LEVEL2_LOG).next_multiple_of(4);
-        let start3 = (2 * half1 + 2 * half2).next_multiple_of(1 << LEVEL3_LOG);
+        let half2 = half3.div_ceil(8 << level3_log).next_multiple_of(1 << level2_log);
+        let half1 = half2.div_ceil(8 << level2_log).next_multiple_of(4);
+        let start3 = (2 * half1 + 2 * half2).next_multiple_of(1 << level3_log);
         Layout {
+            logs,
             hash_levels: [(0, size1), (size1, size2), (size1 + size2, size3), (place4, size4)],
             levels: [(0, half1), (2 * half1, half2), (start3, half3)],
         }
@@ -59,8 +68,8 @@ impl Layout {
 }
 
 /// How many blocks of level 4 the largest image has that is no longer than this.
-pub fn blocks_within(length: usize) -> usize {
-    (1..).take_while(|blocks| Layout::of(*blocks).image_length() <= length).last().expect("one block fits")
+pub fn blocks_within(logs: &Logs, length: usize) -> usize {
+    (1..).take_while(|blocks| Layout::of(logs, *blocks).image_length() <= length).last().expect("one block fits")
 }
 
 /// Bytes that look random and are the same in every run.
@@ -74,19 +83,31 @@ pub fn filled(length: usize, seed: u64) -> Vec<u8> {
 }
 
 /// An image whose level 4 holds the data: whole blocks, all of them verified.
-pub fn image_of(data: &[u8]) -> Vec<u8> {
-    let layout = Layout::of(data.len() / BLOCK);
+pub fn image_of(logs: &Logs, data: &[u8]) -> Vec<u8> {
+    let layout = Layout::of(logs, data.len() >> logs.ivfc[3]);
     let mut image = vec![0; layout.image_length()];
-    let level3 = entries(data, LOGS[3]);
-    let level2 = entries(&level3, LOGS[2]);
-    let level1 = entries(&level2, LOGS[1]);
+    let level3 = entries(data, logs.ivfc[3]);
+    let level2 = entries(&level3, logs.ivfc[2]);
+    let level1 = entries(&level2, logs.ivfc[1]);
     let inner = PARTITION + layout.levels[2].0;
     for ((offset, _), bytes) in layout.hash_levels.iter().zip([&level1[..], &level2, &level3, data]) {
         put(&mut image, inner + offset, bytes);
     }
     put_table(&mut image, &layout);
-    put(&mut image, PRIMARY + MASTER, &entries(&level1, LOGS[0]));
+    put(&mut image, PRIMARY + MASTER, &entries(&level1, logs.ivfc[0]));
     put_header(&mut image);
+    image
+}
+
+/// The same with a byte changed in every second hash block of level 3.
+pub fn damaged_of(logs: &Logs, data: &[u8]) -> Vec<u8> {
+    let mut image = image_of(logs, data);
+    let layout = Layout::of(logs, data.len() >> logs.ivfc[3]);
+    let (offset, size) = layout.hash_levels[2];
+    let start = PARTITION + layout.levels[2].0 + offset;
+    for block in image[start..start + size].chunks_mut(2 << logs.ivfc[2]) {
+        block[0] ^= 1;
+    }
     image
 }
 
@@ -117,11 +138,12 @@ fn put_table(image: &mut [u8], layout: &Layout) {
     put_numbers(image, PRIMARY + 0x08, &pieces);
     put(image, PRIMARY + IVFC, IVFC_OPENING);
     put_numbers(image, PRIMARY + IVFC + 0x08, &[MASTER_SIZE as usize]);
-    for ((at, (offset, size)), log) in IVFC_LEVELS.iter().zip(layout.hash_levels).zip(LOGS) {
+    for ((at, (offset, size)), log) in IVFC_LEVELS.iter().zip(layout.hash_levels).zip(layout.logs.ivfc) {
         put_numbers(image, PRIMARY + IVFC + at, &[offset, size, log]);
     }
     put(image, PRIMARY + DPFS, DPFS_OPENING);
-    for ((at, (offset, size)), log) in DPFS_LEVELS.iter().zip(layout.levels).zip([0, LEVEL2_LOG, LEVEL3_LOG]) {
+    let [level2_log, level3_log] = layout.logs.dpfs;
+    for ((at, (offset, size)), log) in DPFS_LEVELS.iter().zip(layout.levels).zip([0, level2_log, level3_log]) {
         put_numbers(image, PRIMARY + DPFS + at, &[offset, size, log]);
     }
 }

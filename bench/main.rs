@@ -4,6 +4,7 @@
 mod begun;
 mod calls;
 mod counting;
+mod faults;
 mod growth;
 mod image;
 mod measures;
@@ -50,11 +51,13 @@ mod rules {
 
 use std::process::ExitCode;
 
+use faults::Faults;
 use growth::Growth;
 use measures::World;
 use rows::{print_cells, print_head, Row, DIGEST_OF_BLOCK, LONG_READ, LONG_WRITE, ROWS};
 
 const GROWTH: &str = "growth";
+const FAULTS: &str = "faults";
 
 fn main() -> ExitCode {
     let words: Vec<String> = std::env::args().skip(1).collect();
@@ -76,8 +79,13 @@ fn main() -> ExitCode {
         println!();
         growth.print();
     }
+    let faults = wanted(FAULTS).then(Faults::measured);
+    if let Some(faults) = &faults {
+        println!();
+        faults.print();
+    }
     println!();
-    if print_bars(&rows, growth.as_ref()) {
+    if print_bars(&rows, growth.as_ref(), faults.as_ref()) {
         ExitCode::SUCCESS
     } else {
         ExitCode::FAILURE
@@ -85,13 +93,14 @@ fn main() -> ExitCode {
 }
 
 /// Prints the bars of what was measured: whether all hold.
-fn print_bars(rows: &[(&str, Row)], growth: Option<&Growth>) -> bool {
+fn print_bars(rows: &[(&str, Row)], growth: Option<&Growth>, faults: Option<&Faults>) -> bool {
     let row = |name| rows.iter().find(|(other, _)| *other == name).map(|(_, row)| row);
     let bars = [
         row(DIGEST_OF_BLOCK).map(|row| at_least("digest of 4 KiB, speed/(b)", row.speed_to_b(), 0.97)),
         row(LONG_READ).map(|row| at_least("verified read of 4096 blocks, speed/(b)", row.speed_to_b(), 1.8)),
         row(LONG_WRITE).and_then(Row::time_to_a).map(|ratio| at_most("write of 64 blocks, time/(a)", ratio, 0.25)),
         growth.map(|growth| at_most("write of 1 byte, 64 MiB to 1 MiB", growth.of_writes(), 1.2)),
+        faults.map(|faults| at_most("fault list, each block, 64 MiB to 1 MiB", faults.per_block(), 1.5)),
     ];
     bars.into_iter().flatten().fold(true, |all, holds| all & holds)
 }

@@ -6,7 +6,7 @@ use crate::begun::{accepted, Begun};
 use crate::boundary::Library;
 use crate::calls::Calls;
 use crate::counting::{self, hashed_by, Hashed};
-use crate::image::{filled, image_of, BLOCK, TABLE_SIZE};
+use crate::image::{filled, image_of, BLOCK, TABLE_SIZE, USUAL};
 use crate::openssl;
 use crate::plain_sha256::{Sha256, FORMS};
 use crate::rows::Row;
@@ -59,7 +59,7 @@ impl World {
             straightforward: Straightforward { sha256: plain },
             plain,
             plain_time,
-            image: image_of(&data),
+            image: image_of(&USUAL, &data),
             data,
             written: [2, 3].map(|seed| filled(LONGEST_WRITE, seed)),
         }
