@@ -29,6 +29,7 @@ mod subject;
 #[allow(dead_code)]
 mod rules {
     pub mod aes;
+    pub mod block_hash;
     pub mod calls;
     pub mod cmac;
     pub mod compression;

@@ -69,7 +69,7 @@ impl Straightforward {
     pub fn write(
         &self,
         image: &mut [u8],
-        session: &SessionBytes,
+        session: &mut SessionBytes,
         partition: u64,
         place: u64,
         data: &[u8],
@@ -88,11 +88,18 @@ impl Straightforward {
         let scratch = &mut Vec::new();
         judge_write(&staging.staged, image, &range, scratch)?;
         for block in staging.staged.touched(&range) {
+            empty_unverified(&staging, image, block, scratch);
+        }
+        for block in staging.staged.touched(&range) {
             let own = staging.staged.block(4, block);
             let from = range.start.max(own.start);
             let bytes = &data[from - range.start..range.end.min(own.end) - range.start];
             staging.put(image, 4, from, bytes);
             rehash(&staging, image, block, scratch);
+        }
+        if staging.staged.touched(&range).any(|block| has_zero_digest(&staging.staged, image, block)) {
+            *session = [0; SESSION_LENGTH];
+            return Err(Refusal::ZeroDigest);
         }
         Ok(())
     }
@@ -145,23 +152,40 @@ fn check_begun(image: &[u8], opened: &Opened, session: &SessionBytes) -> Result<
     }
 }
 
-/// Refusal 11 for the lowest touched block below a hash block that is not verified, then 10 for the ends of the range
-/// that cover a block only in part.
+/// Refusal 10 for the ends of the range that cover a block only in part.
 fn judge_write(view: &View, image: &[u8], range: &Range<usize>, scratch: &mut Vec<u8>) -> Result<(), Refusal> {
-    let touched = view.touched(range);
-    for block in touched.clone() {
-        if !view.verified(image, 3, view.holder(3, block), scratch) {
-            return Err(Refusal::HashNotVerified(block as u64));
-        }
-    }
-    for block in touched {
+    for block in view.touched(range) {
         let own = view.block(4, block);
         let covered = range.start <= own.start && own.end <= range.end;
-        if !covered && !view.matches(image, 4, block, scratch) {
+        if !covered && !view.verified(image, 4, block, scratch) {
             return Err(Refusal::NotVerified(block as u64));
         }
     }
     Ok(())
+}
+
+/// Empties each hash block above one block of level 4 that is not verified. From level 1 down its entry tells: that of a
+/// block below an emptied one is zero, and matches nothing.
+fn empty_unverified(staging: &Staging, image: &mut [u8], block: usize, scratch: &mut Vec<u8>) {
+    let view = &staging.staged;
+    let three = view.holder(3, block);
+    let two = view.holder(2, three);
+    for (level, block) in [(1, view.holder(1, two)), (2, two), (3, three)] {
+        if !view.matches(image, level, block, scratch) {
+            let own = view.block(level, block);
+            staging.put(image, level, own.start, &vec![0; own.len()]);
+        }
+    }
+}
+
+/// Is an entry above one block of level 4 all zero, up to the staged master hash?
+fn has_zero_digest(view: &View, image: &[u8], block: usize) -> bool {
+    let mut block = block;
+    (1..=4).rev().any(|level| {
+        let zero = view.entry(image, level, block) == [0; ENTRY as usize];
+        block = view.holder(level - 1, block);
+        zero
+    })
 }
 
 /// Brings the entries above one block of level 4 up to date, up to the staged master hash.

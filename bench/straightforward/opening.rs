@@ -174,11 +174,11 @@ fn read_partition(table: &[u8], header: &Header, index: usize) -> Result<Partiti
         && (1..=MOST_MASTER_ENTRIES as u64).contains(&entries);
     // A piece that does not lie in the descriptor is not read, so what it holds is not judged.
     let form_holds = |piece: Extent, form: fn(&[u8]) -> bool| !piece.lies_in(descriptor.size) || form(piece.of(bytes));
-    let same_master = !ivfc.lies_in(descriptor.size) || number(ivfc.of(bytes), 0x08) == master.size;
+    let same_master = || !ivfc.lies_in(descriptor.size) || number(ivfc.of(bytes), 0x08) == master.size;
     if !bytes.starts_with(DIFI_OPENING)
         || !sizes
         || selector > 1
-        || !same_master
+        || !same_master()
         || !form_holds(ivfc, ivfc_form_holds)
         || !form_holds(dpfs, dpfs_form_holds)
     {

@@ -193,11 +193,16 @@ impl View {
         (self.sha256)(scratch)
     }
 
-    /// Does a block's entry match?
-    pub fn matches(&self, image: &[u8], level: usize, block: usize, scratch: &mut Vec<u8>) -> bool {
+    pub fn entry(&self, image: &[u8], level: usize, block: usize) -> [u8; ENTRY as usize] {
         let mut entry = [0; ENTRY as usize];
         self.copy(image, level - 1, block * ENTRY as usize, &mut entry);
-        self.digest(image, level, block, scratch) == entry
+        entry
+    }
+
+    /// Does a block's entry match? One of zeros matches no block.
+    pub fn matches(&self, image: &[u8], level: usize, block: usize, scratch: &mut Vec<u8>) -> bool {
+        let entry = self.entry(image, level, block);
+        entry != [0; ENTRY as usize] && self.digest(image, level, block, scratch) == entry
     }
 
     /// Is a block verified? The chain above it is judged anew for each block, from the block up.

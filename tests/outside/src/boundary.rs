@@ -70,6 +70,10 @@ extern "C" {
 pub struct Library;
 
 impl Subject for Library {
+    fn takes_stand_in(&self) -> bool {
+        false
+    }
+
     fn open(&self, image: &[u8], description: &mut Description) -> u64 {
         unsafe { teplovist_open(image.as_ptr(), image.len(), description.as_mut_ptr()) }
     }

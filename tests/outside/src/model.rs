@@ -40,28 +40,19 @@ impl Version {
         }
     }
 
-    /// What a write over this version answers after 12: 9, or 11 and 10 with the lowest block to which they apply.
-    /// `hash_verified` says of a block whether the hash blocks above it are verified.
-    pub fn write(
-        &self,
-        place: u64,
-        length: usize,
-        block_size: usize,
-        hash_verified: impl Fn(usize) -> bool,
-    ) -> Result<(), Refusal> {
+    /// What a write over this version answers after 12: 9, or 10 with the lowest block to which it applies. Of 17 the
+    /// model knows nothing beforehand.
+    pub fn write(&self, place: u64, length: usize, block_size: usize) -> Result<(), Refusal> {
         if u128::from(place) + length as u128 > self.bytes.len() as u128 {
             return Err(Refusal::PastTheEnd);
         }
         let place = place as usize;
-        let touched = Version::touched(place, length, block_size);
-        if let Some(block) = touched.clone().find(|block| !hash_verified(*block)) {
-            return Err(Refusal::HashNotVerified(block as u64));
-        }
         let covered = |block: usize| {
             let mut bytes = block * block_size..self.bytes.len().min((block + 1) * block_size);
             bytes.all(|byte| (place..place + length).contains(&byte))
         };
-        match touched.clone().find(|block| !self.verified[*block] && !covered(*block)) {
+        let mut touched = Version::touched(place, length, block_size);
+        match touched.find(|block| !self.verified[*block] && !covered(*block)) {
             Some(block) => Err(Refusal::NotVerified(block as u64)),
             None => Ok(()),
         }
@@ -107,6 +98,7 @@ impl Model {
         }
     }
 
+    /// A write that ends in 17 counts as an abandon too.
     pub fn abandon_accepted(&mut self) {
         self.staged = None;
     }

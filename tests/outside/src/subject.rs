@@ -7,12 +7,14 @@ use crate::rules::calls;
 use crate::rules::compression::Digest;
 use crate::rules::faults::{self, FaultRecord};
 use crate::rules::opening;
-use crate::rules::refusal::answer_code;
+use crate::rules::refusal::{answer_code, Refusal};
 use crate::rules::running::{Running, RunningBytes};
 use crate::rules::session::{Session, SessionBytes};
 use crate::rules::signing::{self, BlockBytes, Signer, SignerNumbers};
 
 pub trait Subject {
+    /// Does it take its hash of blocks from the rules, so that a stand-in reaches it?
+    fn takes_stand_in(&self) -> bool;
     fn open(&self, image: &[u8], description: &mut Description) -> u64;
     fn read_committed(&self, image: &[u8], partition: u64, place: u64, buffer: &mut [u8]) -> u64;
     fn read_staged(&self, image: &[u8], session: &SessionBytes, partition: u64, place: u64, buffer: &mut [u8]) -> u64;
@@ -36,6 +38,10 @@ pub trait Subject {
 pub struct Rules;
 
 impl Subject for Rules {
+    fn takes_stand_in(&self) -> bool {
+        true
+    }
+
     fn open(&self, image: &[u8], description: &mut Description) -> u64 {
         answer_code(opening::open(image).map(|opened| {
             *description = describe(&opened);
@@ -68,7 +74,13 @@ impl Subject for Rules {
     }
 
     fn write(&self, image: &mut [u8], session: &mut SessionBytes, partition: u64, place: u64, data: &[u8]) -> u64 {
-        answer_code(calls::write(image, &Session::from_bytes(session), partition, place, data).map(|()| 0))
+        let mut value = Session::from_bytes(session);
+        let answer = calls::write(image, &mut value, partition, place, data);
+        // Else the bytes stay as they were, in whatever way they say that the session has begun.
+        if answer == Err(Refusal::ZeroDigest) {
+            *session = value.to_bytes();
+        }
+        answer_code(answer.map(|()| 0))
     }
 
     fn commit(&self, image: &mut [u8], session: &mut SessionBytes) -> u64 {

@@ -7,12 +7,14 @@ use outside::generate::samples::samples;
 use outside::generate::shape::Wanted;
 use outside::generate::{valid_image, Sample};
 use outside::program::program_output;
+use outside::rules::block_hash::with_stand_in;
 use outside::rules::calls::{abandon, begin, commit, commit_signed, read_committed, read_staged, verified, write};
 use outside::rules::descriptor::{Descriptor, Level, DPFS_SIZE, ENTRY, IVFC_SIZE, MASTER_SIZE};
 use outside::rules::dpfs::View;
 use outside::rules::extent::Extent;
 use outside::rules::header::{Header, Kind, PartitionPlace, HEADER};
 use outside::rules::opening::{open, open_signed, Opened, Partition};
+use outside::rules::protected::free_bytes;
 use outside::rules::refusal::Refusal;
 use outside::rules::session::Session;
 use outside::rules::sha256::sha256;
@@ -118,7 +120,7 @@ fn p8_to_p10_the_end_of_level_4() {
     let mut image = sample.image.clone();
     let mut session = Session::Idle;
     begin(&mut image, &mut session).expect("idle");
-    let mut written = |place: u64, length: usize| number(write(&mut image, &session, 0, place, &vec![1; length]));
+    let mut written = |place: u64, length: usize| number(write(&mut image, &mut session, 0, place, &vec![1; length]));
     assert_eq!(written(0x1000, 0), 0);
     assert_eq!(written(0x1000, 1), 9);
     assert_eq!(written(0x1001, 0), 9);
@@ -248,8 +250,8 @@ fn a_session() {
     assert_eq!(abandon(&mut session), Err(Refusal::WrongSession));
     begin(&mut image, &mut session).expect("idle");
     assert_eq!(begin(&mut image, &mut session.clone()), Err(Refusal::WrongSession));
-    write(&mut image, &session, 0, 60, &[0xAA; 10]).expect("verified");
-    write(&mut image, &session, 0, 65, &[0xBB; 10]).expect("verified");
+    write(&mut image, &mut session, 0, 60, &[0xAA; 10]).expect("verified");
+    write(&mut image, &mut session, 0, 65, &[0xBB; 10]).expect("verified");
     read_staged(&image, &session, 0, 58, &mut buffer).expect("verified");
     let mut expected = old[58..78].to_vec();
     expected[2..7].fill(0xAA);
@@ -257,12 +259,59 @@ fn a_session() {
     assert_eq!(buffer[..], expected);
     read_committed(&image, 0, 58, &mut buffer).expect("verified");
     assert_eq!(buffer, old[58..78]);
-    let stale = session.clone();
+    let mut stale = session.clone();
     commit(&mut image, &mut session).expect("begun");
     assert_eq!(session, Session::Idle);
     read_committed(&image, 0, 58, &mut buffer).expect("verified");
     assert_eq!(buffer[..], expected);
-    assert_eq!(write(&mut image, &stale, 0, 0, &[]), Err(Refusal::Outdated));
+    assert_eq!(write(&mut image, &mut stale, 0, 0, &[]), Err(Refusal::Outdated));
+}
+
+/// Level 3 is one block with the entries of eight, and no longer matches its own entry: a write rebuilds it, and the
+/// entries that were right stand in for nothing.
+#[test]
+fn a_first_write() {
+    let Sample { mut image, opened, .. } = diff_with_data(8 * 32, 5, 8);
+    let partition = &opened.partitions[0];
+    let level2 = partition.descriptor.hash_level(2).extent.offset;
+    let entry = View::committed(&image, &opened, partition).level3_position(level2);
+    image[entry as usize] ^= 1;
+    let mut session = Session::Idle;
+    begin(&mut image, &mut session).expect("idle");
+    let before = image.clone();
+    assert_eq!(write(&mut image, &mut session, 0, 33, &[0xAA; 70]), Err(Refusal::NotVerified(1)));
+    assert_eq!(image, before);
+    write(&mut image, &mut session, 0, 32, &[0xAA; 64]).expect("two whole blocks");
+    let staged = View::staged(&image, &opened, partition);
+    assert_eq!(staged.verified_blocks(4), [false, true, true, false, false, false, false, false]);
+    for block in [0, 3, 4, 5, 6, 7] {
+        assert_eq!(staged.entry(4, block), [0; 32]);
+    }
+    write(&mut image, &mut session, 0, 60, &[0xBB; 1]).expect("a part of a block that is verified now");
+    commit(&mut image, &mut session).expect("begun");
+    let mut buffer = [0; 64];
+    read_committed(&image, 0, 32, &mut buffer).expect("verified");
+    assert_eq!((buffer[27], buffer[28], buffer[29]), (0xAA, 0xBB, 0xAA));
+    assert_eq!(read_committed(&image, 0, 32, &mut [0; 65]), Err(Refusal::NotVerified(3)));
+}
+
+/// Under a hash that gives zeros for every message each write ends in 17, and the session with it.
+#[test]
+fn a_digest_of_zeros() {
+    let Sample { mut image, opened, .. } = diff_with_data(300, 6, 5);
+    let mut session = Session::Idle;
+    begin(&mut image, &mut session).expect("idle");
+    let before = image.clone();
+    with_stand_in(255, || {
+        assert_eq!(write(&mut image, &mut session, 0, 0, &[]), Ok(()));
+        assert_eq!(write(&mut image, &mut session, 0, 0, &[1; 301]), Err(Refusal::PastTheEnd));
+        assert_eq!(write(&mut image, &mut session, 0, 0, &[1; 65]), Err(Refusal::NotVerified(1)));
+        assert_eq!(image, before);
+        assert_eq!(write(&mut image, &mut session, 0, 0, &[1; 64]), Err(Refusal::ZeroDigest));
+    });
+    assert_eq!(session, Session::Idle);
+    let free = free_bytes(&before, &opened);
+    assert!((0..image.len()).all(|place| free[place] || image[place] == before[place]));
 }
 
 /// The order of signed opening's refusals, by damage that is added step by step.
@@ -302,7 +351,7 @@ fn a_signed_session() {
     let mut session = Session::Idle;
     assert_eq!(commit_signed(&mut image, &mut session, &key, Signer::Gamecard), Err(Refusal::WrongSession));
     begin(&mut image, &mut session).expect("idle");
-    write(&mut image, &session, 0, 0, &[0xAA; 10]).expect("verified");
+    write(&mut image, &mut session, 0, 0, &[0xAA; 10]).expect("verified");
     let before = image.clone();
     assert_eq!(commit_signed(&mut image, &mut session, &key, Signer::Gamecard), Err(Refusal::WrongSigner));
     assert_eq!(image, before);

@@ -3,18 +3,21 @@
 
 use outside::description::{Description, DESCRIPTION_LENGTH};
 use outside::rules::aes::Key;
+use outside::rules::block_hash::block_hash;
 use outside::rules::cmac::cmac;
 use outside::rules::compression::{compress, Digest};
 use outside::rules::descriptor::{ENTRY, IVFC_LEVELS, SELECTOR};
-use outside::rules::dpfs::View;
+use outside::rules::dpfs::{bit_place, View};
+use outside::rules::extent::Extent;
 use outside::rules::faults::{faults, FaultRecord};
-use outside::rules::header::{B_FIELDS, HEADER, LONGEST_IMAGE};
+use outside::rules::header::{B_FIELDS, HEADER, HEADER_LENGTH, LONGEST_IMAGE};
 use outside::rules::opening::open;
 use outside::rules::running::{Running, RunningBytes, LONGEST_MESSAGE, TOTAL, WAITING};
-use outside::rules::session::SessionBytes;
+use outside::rules::session::{SessionBytes, SESSION_LENGTH};
 use outside::rules::sha256::sha256;
 use outside::rules::signing::{signature, signing_block, BlockBytes, Signer, SignerNumbers, LONGEST_BLOCK};
 use outside::subject::{Rules, Subject};
+use outside::trial::properties::{finish_write, rebuilt_extent, touched_on_each_level, Finished};
 use outside::trial::tally::{Tally, NUMBERS};
 use outside::trial::{run_case, run_fixed_cases};
 
@@ -33,7 +36,7 @@ fn the_model_agrees_and_every_answer_occurs() {
         ("verified", vec![8, 9]),
         ("count verified", vec![8]),
         ("begin", vec![13]),
-        ("write", vec![8, 9, 10, 11, 12, 13, 14]),
+        ("write", vec![8, 9, 10, 12, 13, 14, 17]),
         ("commit", vec![13, 14]),
         ("open signed", vec![15, 16]),
         ("commit signed", vec![13, 14, 15]),
@@ -56,6 +59,10 @@ fn the_model_agrees_and_every_answer_occurs() {
     assert!(tally.power_failures > 0 && tally.writes_upon_writes > 0);
     assert!(tally.later_entries > 0, "no write reached a later entry of a master hash");
     assert!(tally.rows > 0, "no call met eight blocks in a row");
+    assert_eq!(tally.count("write", 11), 0);
+    assert!(tally.rebuilt.iter().all(|count| *count > 0), "rebuilt hash blocks: {:?}", tally.rebuilt);
+    assert!(tally.rebuilt_across > 0 && tally.rebuilt_short > 0);
+    assert!(tally.zero_digests.iter().all(|count| *count > 0), "digests of zeros: {:?}", tally.zero_digests);
 }
 
 /// Names the ways to go wrong, and lists them all.
@@ -135,12 +142,26 @@ faults! {
     ListsRootsOnly,
     ShortRowHoldsLast,
     ClearsRowOnRefusal,
+    ZeroEntriesVerify,
+    RefusesAboveUnverified,
+    KeepsStaleEntries,
+    RebuildsLastLevelOnly,
+    RebuildsMasterHash,
+    LeavesZeroEntriesInPlace,
+    ZeroDigestKeepsSession,
+    ZeroDigestBeforeParts,
+    ZeroDigestChangesCommitted,
+    ZeroDigestCarriesBlock,
 }
 
 /// The model with one fault.
 struct Faulty(Fault);
 
 impl Subject for Faulty {
+    fn takes_stand_in(&self) -> bool {
+        true
+    }
+
     fn open(&self, image: &[u8], description: &mut Description) -> u64 {
         let untouched = *description;
         let answer = Rules.open(image, description);
@@ -187,6 +208,7 @@ impl Subject for Faulty {
     fn verified(&self, image: &[u8], partition: u64, block: u64) -> u64 {
         match Rules.verified(image, partition, block) {
             0 if self.0 == Fault::SaysYes => 1 << 8,
+            0 if self.0 == Fault::ZeroEntriesVerify && verified_by_any_entry(image, partition, block) => 1 << 8,
             answer => answer,
         }
     }
@@ -211,7 +233,29 @@ impl Subject for Faulty {
         if self.0 == Fault::CopiesAgain {
             copy_live_over_other(image);
         }
+        let session_before = *session;
         let answer = Rules.write(image, session, partition, place, data);
+        match (self.0, answer & 0xFF) {
+            (Fault::RefusesAboveUnverified, 0) if !finish(&before, partition, place, data).rebuilt.is_empty() => {
+                image.copy_from_slice(&before);
+                return 11;
+            }
+            (Fault::KeepsStaleEntries, 0) => restore_entries(&before, image, partition, place, data, 3),
+            (Fault::RebuildsLastLevelOnly, 0) => restore_entries(&before, image, partition, place, data, 2),
+            (Fault::RebuildsMasterHash, 0) => empty_master_hash(&before, image, partition, place, data),
+            (Fault::LeavesZeroEntriesInPlace, 0) => move_back(&before, image, partition),
+            (Fault::ZeroDigestKeepsSession, 17) => *session = session_before,
+            (Fault::ZeroDigestBeforeParts, 10) if finish(&before, partition, place, data).zero_digest.is_some() => {
+                *session = [0; SESSION_LENGTH];
+                return 17;
+            }
+            (Fault::ZeroDigestChangesCommitted, 17) => {
+                image[HEADER + HEADER_LENGTH - 1] ^= 1;
+                return 17;
+            }
+            (Fault::ZeroDigestCarriesBlock, 17) => return 1 << 8 | 17,
+            _ => {}
+        }
         if answer != 0 || self.0 == Fault::WriteDoesNothing {
             image.copy_from_slice(&before);
         } else if self.0 == Fault::WritesFirstMasterEntry {
@@ -506,6 +550,77 @@ fn roots_of(image: &[u8], list: Vec<FaultRecord>) -> Vec<FaultRecord> {
         FaultRecord { level, block: fault.block / entries as u64, ..*fault }
     };
     list.iter().copied().filter(|fault| fault.level == 1 || list.binary_search(&above(fault)).is_err()).collect()
+}
+
+/// Is the block verified if an entry of zeros counts like any other?
+fn verified_by_any_entry(image: &[u8], partition: u64, block: u64) -> bool {
+    let opened = open(image).expect("it has opened");
+    let view = View::committed(image, &opened, &opened.partitions[partition as usize]);
+    let mut block = u128::from(block);
+    (1..=4).rev().all(|level| {
+        let matches = block_hash(&view.padded_block(level, block)) == *view.entry(level, block);
+        block = if level == 1 { 0 } else { view.holder(level - 1, block) };
+        matches
+    })
+}
+
+/// What a write comes to that was not refused by its session or its range.
+fn finish(before: &[u8], partition: u64, place: u64, data: &[u8]) -> Finished {
+    let opened = open(before).expect("it has opened");
+    let staged = View::staged(before, &opened, &opened.partitions[partition as usize]);
+    finish_write(&staged, Extent::new(place, data.len() as u64), data)
+}
+
+/// Puts the old entries back into the blocks that a write has rebuilt, up to a level, but for those above written blocks.
+fn restore_entries(before: &[u8], image: &mut [u8], partition: u64, place: u64, data: &[u8], deepest: usize) {
+    let opened = open(before).expect("it has opened");
+    let written = Extent::new(place, data.len() as u64);
+    let rebuilt = finish(before, partition, place, data).rebuilt;
+    let partition = &opened.partitions[partition as usize];
+    let touched = touched_on_each_level(partition, written);
+    for (level, block) in rebuilt.into_iter().filter(|(level, _)| *level <= deepest) {
+        let start = partition.descriptor.hash_level(level).extent.offset;
+        let extent = rebuilt_extent(partition, level, block);
+        for at in (extent.offset..extent.end()).filter(|at| !touched[level + 1].contains(&((at - start) / ENTRY))) {
+            let old = View::staged(before, &opened, partition).level3_position(at) as usize;
+            let new = View::staged(image, &opened, partition).level3_position(at) as usize;
+            image[new] = before[old];
+        }
+    }
+}
+
+/// Where a block of level 1 was rebuilt, every entry of the staged master hash becomes zero but those above the write.
+fn empty_master_hash(before: &[u8], image: &mut [u8], partition: u64, place: u64, data: &[u8]) {
+    let opened = open(before).expect("it has opened");
+    let written = Extent::new(place, data.len() as u64);
+    let rebuilt = finish(before, partition, place, data).rebuilt;
+    let partition = &opened.partitions[partition as usize];
+    if !rebuilt.iter().any(|(level, _)| *level == 1) {
+        return;
+    }
+    let table = opened.header.inactive_table().offset + partition.place.descriptor.offset;
+    let master = (table + partition.descriptor.master.offset) as usize;
+    let touched = &touched_on_each_level(partition, written)[0];
+    for entry in (0..partition.descriptor.master.size / ENTRY).filter(|entry| !touched.contains(entry)) {
+        image[master + 32 * entry as usize..][..32].fill(0);
+    }
+}
+
+/// Moves staged copies that hold just what the live ones do back onto those.
+fn move_back(before: &[u8], image: &mut [u8], partition: u64) {
+    let opened = open(before).expect("it has opened");
+    let partition = &opened.partitions[partition as usize];
+    for block in 0..partition.descriptor.level3.blocks() {
+        let own = partition.descriptor.level3.block_extent(block);
+        let old = View::staged(before, &opened, partition);
+        let new = View::staged(image, &opened, partition);
+        let same = old.level3_bytes(own.offset, own.end()) == new.level3_bytes(own.offset, own.end());
+        if old.level3_copy(block) != new.level3_copy(block) && same {
+            let (byte, mask) = bit_place(block);
+            let position = new.level2_position(byte) as usize;
+            image[position] ^= mask;
+        }
+    }
 }
 
 /// Every entry of the staged master hash that a write has changed goes to the first entry's place instead.

@@ -4,6 +4,8 @@ use super::random::Random;
 use super::shape::Wanted;
 use super::Sample;
 use crate::model::Version;
+use crate::rules::block_hash::block_hash;
+use crate::rules::compression::Digest;
 use crate::rules::descriptor::{
     Level, DIFI_OPENING, DPFS_LEVELS, DPFS_OPENING, ENTRY, IVFC_LEVELS, IVFC_OPENING, SELECTOR,
 };
@@ -176,17 +178,21 @@ fn fill_partition(random: &mut Random, wanted: &Wanted, image: &mut [u8], partit
     if random.chance(15) {
         data.fill(0);
     }
-    let faults = if wanted.all_verified { [0; 4] } else { choose_faults(random) };
+    let faults = Faults::choose(random, wanted);
 
     // From level 4 upwards: the bytes of each level and, for each of its blocks, whether its entry matches.
     let mut levels = vec![data.clone()];
     let mut matches = Vec::new();
     for level in (1..=4).rev() {
         let bytes = levels.last().expect("level 4 is there");
-        let (entries, good) = hash_blocks(random, bytes, descriptor.hash_level(level).log, faults[level - 1]);
+        let (entries, good) =
+            hash_blocks(random, bytes, descriptor.hash_level(level).log, faults.percent[level - 1], faults.entry);
         matches.push(good);
         let size = if level == 1 { descriptor.master.size } else { descriptor.hash_level(level - 1).extent.size };
         let mut above = random.bytes(size as usize);
+        if faults.blank {
+            above.fill(0);
+        }
         put(&mut above, 0, &entries);
         levels.push(above);
     }
@@ -216,34 +222,91 @@ fn fill_partition(random: &mut Random, wanted: &Wanted, image: &mut [u8], partit
     Filled { version: Version { bytes: data, verified }, hash_verified: [one, two, three], master }
 }
 
-/// In how many of a hundred cases a block of level 1 to 4 gets an entry that does not match.
-fn choose_faults(random: &mut Random) -> [u64; 4] {
-    match random.below(10) {
-        0..=3 => [0, 0, 0, 0],
-        4..=6 => [0, 0, 0, 30],
-        7 => [0, 0, 30, 30],
-        8 => [0, 30, 0, 30],
-        _ => [10, 10, 10, 50],
+/// How entries go wrong.
+struct Faults {
+    /// In how many of a hundred cases a block of level 1 to 4 gets an entry that does not match.
+    percent: [u64; 4],
+    entry: WrongEntry,
+    /// Spare entries are zeros instead of noise.
+    blank: bool,
+}
+
+#[derive(Clone, Copy)]
+enum WrongEntry {
+    /// Noise, or nearly right.
+    Damaged,
+    /// Zeros: the block was never written.
+    Zero,
+    /// The hash of a block of zeros: the right one of a hash block, once that is emptied.
+    OfZeros,
+    Any,
+}
+
+impl Faults {
+    fn choose(random: &mut Random, wanted: &Wanted) -> Faults {
+        if wanted.all_verified {
+            return Faults { percent: [0; 4], entry: WrongEntry::Any, blank: false };
+        }
+        if wanted.fresh.unwrap_or_else(|| random.chance(40)) {
+            return Faults::fresh(random);
+        }
+        let percent = match random.below(10) {
+            0..=3 => [0, 0, 0, 0],
+            4..=6 => [0, 0, 0, 30],
+            7 => [0, 0, 30, 30],
+            8 => [0, 30, 0, 30],
+            _ => [10, 10, 10, 50],
+        };
+        Faults { percent, entry: WrongEntry::Damaged, blank: false }
+    }
+
+    /// Whole levels that were never written, and levels that were written in part.
+    fn fresh(random: &mut Random) -> Faults {
+        let percent = random.pick(&[
+            [100, 100, 100, 100],
+            [100, 0, 0, 0],
+            [0, 100, 0, 0],
+            [0, 0, 100, 0],
+            [0, 0, 100, 100],
+            [0, 0, 0, 60],
+            [0, 50, 50, 50],
+            [50, 50, 50, 50],
+            [30, 10, 30, 80],
+        ]);
+        let entry = random.pick(&[WrongEntry::Zero, WrongEntry::Zero, WrongEntry::OfZeros, WrongEntry::Any]);
+        Faults { percent, entry, blank: random.chance(50) }
     }
 }
 
-/// An entry for each block of a level, some of them wrong, and which ones match.
-fn hash_blocks(random: &mut Random, bytes: &[u8], log: u64, faults: u64) -> (Vec<u8>, Vec<bool>) {
+/// An entry for each block of a level, some of them wrong, and which ones match. One of zeros matches nothing.
+fn hash_blocks(random: &mut Random, bytes: &[u8], log: u64, percent: u64, wrong: WrongEntry) -> (Vec<u8>, Vec<bool>) {
     let mut entries = Vec::new();
     let mut good = Vec::new();
     for block in bytes.chunks(1 << log) {
         let mut padded = block.to_vec();
         padded.resize(1 << log, 0);
-        let digest = sha256(&padded);
-        let entry = if random.chance(faults) { wrong_entry(random, block, digest) } else { digest };
+        let digest = block_hash(&padded);
+        let entry = if random.chance(percent) { wrong_entry(random, wrong, block, log, digest) } else { digest };
         entries.extend_from_slice(&entry);
-        good.push(entry == digest);
+        good.push(entry == digest && entry != [0; 32]);
     }
     (entries, good)
 }
 
+fn wrong_entry(random: &mut Random, wrong: WrongEntry, block: &[u8], log: u64, digest: Digest) -> Digest {
+    match wrong {
+        WrongEntry::Zero => [0; 32],
+        WrongEntry::OfZeros => block_hash(&vec![0; 1 << log]),
+        WrongEntry::Damaged => damaged_entry(random, block, digest),
+        WrongEntry::Any => {
+            let wrong = random.pick(&[WrongEntry::Zero, WrongEntry::OfZeros, WrongEntry::Damaged]);
+            wrong_entry(random, wrong, block, log, digest)
+        }
+    }
+}
+
 /// Noise, the right hash with one bit changed, or the hash of the block without the zeros behind it.
-fn wrong_entry(random: &mut Random, block: &[u8], digest: [u8; 32]) -> [u8; 32] {
+fn damaged_entry(random: &mut Random, block: &[u8], digest: Digest) -> Digest {
     match random.below(3) {
         0 => random.bytes(32).try_into().expect("32 bytes"),
         1 => {
@@ -251,7 +314,7 @@ fn wrong_entry(random: &mut Random, block: &[u8], digest: [u8; 32]) -> [u8; 32] 
             entry[random.below(32) as usize] ^= 1 << random.below(8);
             entry
         }
-        _ => sha256(block),
+        _ => block_hash(block),
     }
 }
 

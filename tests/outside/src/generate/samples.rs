@@ -7,7 +7,13 @@ use crate::rules::header::Kind;
 
 /// Name and bytes of each sample.
 pub fn samples() -> Vec<(&'static str, Vec<u8>)> {
-    let loose = Wanted { external: Some(false), master_entries: Some(1), leftovers: Some(false), ..Wanted::default() };
+    let loose = Wanted {
+        external: Some(false),
+        master_entries: Some(1),
+        leftovers: Some(false),
+        fresh: Some(false),
+        ..Wanted::default()
+    };
     let tight = Wanted { flag: Some(1), tight: true, all_verified: true, ..loose.clone() };
     let wanted = [
         ("disa-one.img", Wanted { kind: Some(Kind::Disa), count: Some(1), data: Some((4096, 12)), ..tight }),

@@ -27,6 +27,8 @@ pub struct Wanted {
     pub tight: bool,
     /// Every block is verified.
     pub all_verified: bool,
+    /// As a console leaves it: ground that was never written, or only in part.
+    pub fresh: Option<bool>,
     /// No bit to spare: DPFS level 2 has a block for each bit of a half of level 1, and level 3 one for each bit of a half of
     /// level 2; both have room for one block more. Level 4 must be small enough for the level 3 that comes of it.
     pub full_bits: bool,

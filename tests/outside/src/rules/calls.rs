@@ -1,5 +1,5 @@
 //! The calls. Each makes the paper's checks in the paper's order; the first that fails decides the answer, and then
-//! nothing has changed.
+//! nothing has changed, but for 17, which ends the session.
 
 use std::ops::Range;
 
@@ -66,8 +66,8 @@ pub fn begin(image: &mut [u8], session: &mut Session) -> Result<(), Refusal> {
     Ok(())
 }
 
-/// Writes into the staged view's level 4.
-pub fn write(image: &mut [u8], session: &Session, partition: u64, place: u64, data: &[u8]) -> Result<(), Refusal> {
+/// Writes into the staged view's level 4. Only 17 changes the session.
+pub fn write(image: &mut [u8], session: &mut Session, partition: u64, place: u64, data: &[u8]) -> Result<(), Refusal> {
     let opened = open(image)?;
     check_begun(image, &opened, session)?;
     let partition = opened.partition(partition)?;
@@ -76,19 +76,12 @@ pub fn write(image: &mut [u8], session: &Session, partition: u64, place: u64, da
     }
     let view = View::staged(image, &opened, partition);
     let range = range_in_data(&view, place, data.len())?;
-    let touched = touched_blocks(partition, range);
-    for block in touched.clone() {
-        if !view.verified(3, view.holder(3, block)) {
-            return Err(Refusal::HashNotVerified(block as u64));
-        }
-    }
-    for block in touched {
+    for block in touched_blocks(partition, range) {
         if !covered_in_full(partition, range, block) && !view.verified(4, block) {
             return Err(Refusal::NotVerified(block as u64));
         }
     }
-    staging::write(image, &opened, partition, range, data);
-    Ok(())
+    staging::write(image, &opened, partition, range, data).inspect_err(|_| *session = Session::Idle)
 }
 
 /// Makes the staged table the active one.
@@ -181,8 +174,6 @@ pub fn blocks_of(block_size: u128, range: Extent) -> Range<u128> {
 
 /// Does the range hold all bytes of the block below level 4's size?
 fn covered_in_full(partition: &Partition, range: Extent, block: u128) -> bool {
-    let level = partition.descriptor.hash_level(4);
-    let from = block * level.block_size();
-    let to = level.extent.size.min(from + level.block_size());
-    range.offset <= from && to <= range.end()
+    let own = partition.descriptor.hash_level(4).block_extent(block);
+    range.offset <= own.offset && own.end() <= range.end()
 }

@@ -44,6 +44,12 @@ impl Level {
     pub fn blocks(self) -> u128 {
         self.extent.size.div_ceil(self.block_size())
     }
+
+    /// Where a block lies in the level; the last one may be short.
+    pub fn block_extent(self, block: u128) -> Extent {
+        let offset = block * self.block_size();
+        Extent { offset, size: self.extent.size.min(offset + self.block_size()) - offset }
+    }
 }
 
 /// Everything that is read from one descriptor.

@@ -1,9 +1,9 @@
 //! Blocks of the hash tree, their entries, and which blocks are verified. Level 0 is the master hash.
 
+use super::block_hash::{block_hash, is_zero};
 use super::descriptor::ENTRY;
 use super::dpfs::View;
 use super::extent::Extent;
-use super::sha256::sha256;
 
 impl View<'_> {
     /// Bytes of IVFC level 1 to 4, from `from` to `to` within the level.
@@ -28,9 +28,8 @@ impl View<'_> {
     /// Block `block` of a level: its bytes, followed by zeros up to the block size.
     pub fn padded_block(&self, level: usize, block: u128) -> Vec<u8> {
         let shape = self.partition.descriptor.hash_level(level);
-        let from = block * shape.block_size();
-        let to = shape.extent.size.min(from + shape.block_size());
-        let mut bytes = self.level_bytes(level, from, to);
+        let own = shape.block_extent(block);
+        let mut bytes = self.level_bytes(level, own.offset, own.end());
         bytes.resize(shape.block_size() as usize, 0);
         bytes
     }
@@ -50,8 +49,10 @@ impl View<'_> {
         ENTRY * block / self.partition.descriptor.hash_level(level).block_size()
     }
 
+    /// An entry of zeros matches no block.
     fn entry_matches(&self, level: usize, block: u128) -> bool {
-        sha256(&self.padded_block(level, block)) == *self.entry(level, block)
+        let entry = self.entry(level, block);
+        !is_zero(&entry) && block_hash(&self.padded_block(level, block)) == *entry
     }
 
     /// A block is verified when its entry matches and the block holding that entry is verified too.

@@ -1,6 +1,7 @@
 //! The container's rules, in the order of the paper.
 
 pub mod aes;
+pub mod block_hash;
 pub mod calls;
 pub mod cmac;
 pub mod compression;

@@ -28,10 +28,9 @@ pub fn free_bytes(image: &[u8], opened: &Opened) -> Vec<bool> {
         let level = descriptor.level3;
         for block in 0..level.blocks() {
             let live = view.level3_copy(block);
-            let from = block * level.block_size();
-            let to = level.extent.size.min(from + level.block_size());
+            let own = level.block_extent(block);
             let other = area + level.extent.offset + (1 - live) * level.extent.size;
-            (other + from..other + to).for_each(&mut mark);
+            (other + own.offset..other + own.end()).for_each(&mut mark);
         }
     }
     free

@@ -22,8 +22,6 @@ pub enum Refusal {
     PastTheEnd,
     /// 10: this block of level 4 is not verified.
     NotVerified(u64),
-    /// 11: a hash block above this block of level 4 is not verified.
-    HashNotVerified(u64),
     /// 12: a write to a partition whose level 4 is external.
     ExternalWrite,
     /// 13: idle where begun is needed, or begun where idle is.
@@ -34,6 +32,8 @@ pub enum Refusal {
     WrongSigner,
     /// 16: the first 16 bytes are not the signature.
     WrongSignature,
+    /// 17: a digest that the finished write would hold is all zero. The one refusal after which bytes may have changed.
+    ZeroDigest,
     /// 22: a running digest's message is or would become too long.
     MessageTooLong,
 }
@@ -51,20 +51,20 @@ impl Refusal {
             Refusal::NoSuchPartition => 8,
             Refusal::PastTheEnd => 9,
             Refusal::NotVerified(_) => 10,
-            Refusal::HashNotVerified(_) => 11,
             Refusal::ExternalWrite => 12,
             Refusal::WrongSession => 13,
             Refusal::Outdated => 14,
             Refusal::WrongSigner => 15,
             Refusal::WrongSignature => 16,
+            Refusal::ZeroDigest => 17,
             Refusal::MessageTooLong => 22,
         }
     }
 
-    /// The block number that 10 and 11 carry; all others carry 0.
+    /// The block number that 10 carries; all others carry 0.
     pub fn block(self) -> u64 {
         match self {
-            Refusal::NotVerified(block) | Refusal::HashNotVerified(block) => block,
+            Refusal::NotVerified(block) => block,
             _ => 0,
         }
     }

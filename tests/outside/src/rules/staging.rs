@@ -2,12 +2,13 @@
 
 use std::ops::Range;
 
+use super::block_hash::{block_hash, is_zero};
 use super::calls::{blocks_of, touched_blocks};
 use super::descriptor::{ENTRY, SELECTOR};
 use super::dpfs::{bit_place, View};
 use super::extent::Extent;
 use super::opening::{Opened, Partition};
-use super::sha256::sha256;
+use super::refusal::Refusal;
 
 /// Begin's stores.
 pub fn prepare(image: &mut [u8], opened: &Opened) {
@@ -40,20 +41,47 @@ pub fn inactive_table_is_staged(image: &[u8], opened: &Opened) -> bool {
     expected == inactive
 }
 
-/// Write's stores: the bytes, then the entries of the touched blocks in levels 3, 2, 1 and the staged master hash.
-pub fn write(image: &mut [u8], opened: &Opened, partition: &Partition, range: Extent, data: &[u8]) {
+/// Write's stores: hash blocks above touched blocks are emptied if they are not verified; then come the bytes, then the
+/// entries of the touched blocks in levels 3, 2, 1 and the staged master hash. Refusal 17 if one of those is all zero.
+pub fn write(
+    image: &mut [u8],
+    opened: &Opened,
+    partition: &Partition,
+    range: Extent,
+    data: &[u8],
+) -> Result<(), Refusal> {
+    for (level, block) in unverified_above(&View::staged(image, opened, partition), range) {
+        let own = partition.descriptor.hash_level(level).block_extent(block);
+        let start = partition.descriptor.hash_level(level).extent.offset;
+        put(image, opened, partition, start + own.offset, &vec![0; own.size as usize]);
+    }
     let start = partition.descriptor.hash_level(4).extent.offset;
     put(image, opened, partition, start + range.offset, data);
     let mut touched = touched_blocks(partition, range);
     for level in [4, 3, 2, 1] {
         for block in touched.clone() {
-            let digest = sha256(&View::staged(image, opened, partition).padded_block(level, block));
+            let digest = block_hash(&View::staged(image, opened, partition).padded_block(level, block));
+            if is_zero(&digest) {
+                return Err(Refusal::ZeroDigest);
+            }
             put_entry(image, opened, partition, level - 1, ENTRY * block, &digest);
         }
         if level > 1 {
             touched = holders(partition, level - 1, touched);
         }
     }
+    Ok(())
+}
+
+/// The hash blocks above a range of level 4 that are not verified, by level and number.
+fn unverified_above(view: &View, range: Extent) -> Vec<(usize, u128)> {
+    let mut unverified = Vec::new();
+    let mut touched = touched_blocks(view.partition, range);
+    for level in [3, 2, 1] {
+        touched = holders(view.partition, level, touched);
+        unverified.extend(touched.clone().filter(|block| !view.verified(level, *block)).map(|block| (level, block)));
+    }
+    unverified
 }
 
 /// The blocks of level 1 to 3 that hold the entries of these blocks of the next level.

@@ -227,7 +227,7 @@ impl Call {
             4 => Call::CountVerified { partition },
             5 => Call::Begin,
             6 => {
-                let (place, length) = choose_range(random, data_size, block_size);
+                let (place, length) = choose_written(random, data_size, block_size);
                 Call::Write { partition, place, data: random.bytes(length) }
             }
             7 => Call::Commit,
@@ -286,10 +286,24 @@ fn choose_block(random: &mut Random, blocks: u64) -> u64 {
     }
 }
 
+/// Where to write: half of the time whole blocks, which need not have been verified.
+fn choose_written(random: &mut Random, size: u64, block_size: u64) -> (u64, usize) {
+    let (place, length) = choose_range(random, size, block_size);
+    if place >= size || length == 0 || random.chance(50) {
+        return (place, length);
+    }
+    let from = place - place % block_size;
+    let to = (place + length as u64).next_multiple_of(block_size).min(size);
+    (from, (to.max(from) - from) as usize)
+}
+
 /// A place and a length: inside level 4 or at its edges most of the time, often at the edges of blocks.
 fn choose_range(random: &mut Random, size: u64, block_size: u64) -> (u64, usize) {
-    if random.chance(8) {
-        return range_at_the_limits(random, size);
+    match random.below(25) {
+        0..=1 => return range_at_the_limits(random, size),
+        2 => return (0, size as usize),
+        3 => return (random.below(size), 1),
+        _ => {}
     }
     let from = choose_edge(random, size, block_size);
     let to = match random.below(4) {

@@ -124,7 +124,7 @@ fn spoil(image: &mut [u8], sample: &Sample, target: usize, level: usize, block: 
 /// The position of the last byte of a block of levels 1 to 4.
 fn last_byte(image: &[u8], sample: &Sample, partition: &Partition, level: usize, block: u128) -> u128 {
     let shape = partition.descriptor.hash_level(level);
-    let place = shape.extent.size.min((block + 1) * shape.block_size()) - 1;
+    let place = shape.block_extent(block).end() - 1;
     match partition.descriptor.external {
         Some(offset) if level == 4 => partition.place.area.offset + u128::from(offset) + place,
         _ => View::committed(image, &sample.opened, partition).level3_position(shape.extent.offset + place),

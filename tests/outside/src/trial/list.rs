@@ -3,7 +3,9 @@
 
 use super::call::{Call, Outcome, UNTOUCHED_DESCRIPTION};
 use super::faults::{check_row, list_of};
-use super::properties::{check_begin, check_commit, check_signed_commit, check_write, require, touched_master_entries};
+use super::properties::{
+    check_begin, check_commit, check_signed_commit, check_write, finish_write, require, touched_on_each_level,
+};
 use super::rows::touches_row;
 use super::signatures::signed_answer;
 use super::signing::{check_signing, kind_of};
@@ -13,7 +15,6 @@ use crate::generate::random::Random;
 use crate::generate::signing::SigningKey;
 use crate::generate::Sample;
 use crate::model::{Model, Version};
-use crate::rules::descriptor::ENTRY;
 use crate::rules::dpfs::View;
 use crate::rules::extent::Extent;
 use crate::rules::faults::FaultRecord;
@@ -100,6 +101,16 @@ impl<'a> List<'a> {
         Ok(())
     }
 
+    /// Makes these calls, one after the other, in one session.
+    pub fn run_calls(&mut self, calls: &[Call]) -> Result<(), String> {
+        for call in calls {
+            let mut session = self.session;
+            self.try_call(call, &mut session).map_err(|complaint| format!("{call}: {complaint}"))?;
+            self.session = session;
+        }
+        Ok(())
+    }
+
     fn held(&self) -> bool {
         self.models[0].staged.is_some()
     }
@@ -140,6 +151,8 @@ impl<'a> List<'a> {
         if outcome.accepted() {
             self.tally.rows += u64::from(touches_row(call, &self.image, &self.opened));
             self.check_accepted(call, &before, &session_before, session, &outcome)?;
+        } else if outcome.answer == answer_code(Err(Refusal::ZeroDigest)) {
+            self.check_zero_digest(call, &before, session, &outcome)?;
         } else {
             let untouched =
                 self.image == before && *session == session_before && outcome == Outcome::refused(call, outcome.answer);
@@ -245,14 +258,17 @@ impl<'a> List<'a> {
             Call::Write { place, data, .. } => {
                 let partition = &self.opened.partitions[partition];
                 if partition.descriptor.external.is_some() {
-                    return Some(Prediction::Answer(answer_code(Err(Refusal::ExternalWrite))));
+                    return refused(Refusal::ExternalWrite);
                 }
-                // The model knows no hash blocks: which ones are verified comes from the image.
-                let hashes = View::staged(image, &self.opened, partition).verified_blocks(3);
-                let entries = partition.descriptor.hash_level(3).block_size() as usize / ENTRY as usize;
-                let staged = model.staged.as_ref()?;
-                let answer = staged.write(*place, data.len(), model.block_size, |block| hashes[block / entries]);
-                Some(Prediction::Answer(answer_code(answer.map(|()| 0))))
+                if let Err(refusal) = model.staged.as_ref()?.write(*place, data.len(), model.block_size) {
+                    return refused(refusal);
+                }
+                // The model knows no digests: 17 comes from the image.
+                let range = Extent::new(*place, data.len() as u64);
+                match finish_write(&View::staged(image, &self.opened, partition), range, data).zero_digest {
+                    Some(_) => refused(Refusal::ZeroDigest),
+                    None => Some(Prediction::Answer(0)),
+                }
             }
             _ => None,
         }
@@ -290,6 +306,27 @@ impl<'a> List<'a> {
         Ok(())
     }
 
+    /// 17: the session is idle, nothing is protected less than before, and for the model it is an abandon.
+    fn check_zero_digest(
+        &mut self,
+        call: &Call,
+        before: &[u8],
+        session: &SessionBytes,
+        outcome: &Outcome,
+    ) -> Result<(), String> {
+        let Call::Write { partition, place, data } = call else {
+            return Err("only a write answers 17".into());
+        };
+        let partition = &self.opened.partitions[*partition as usize];
+        let range = Extent::new(*place, data.len() as u64);
+        let level = finish_write(&View::staged(before, &self.opened, partition), range, data).zero_digest;
+        self.tally.zero_digests[level.ok_or("17 without a digest that is all zero")? - 1] += 1;
+        require(*session == [0; SESSION_LENGTH], || "17 leaves a session".into())?;
+        require(*outcome == Outcome::refused(call, outcome.answer), || "17 changed what it was lent".into())?;
+        self.models.iter_mut().for_each(Model::abandon_accepted);
+        self.check_protected(before)
+    }
+
     /// What an accepted call has changed in the image is what it must change.
     fn check_image(&mut self, call: &Call, before: &[u8]) -> Result<(), String> {
         match call {
@@ -299,9 +336,12 @@ impl<'a> List<'a> {
             Call::Write { partition, place, data } => {
                 let partition = &self.opened.partitions[*partition as usize];
                 let range = Extent::new(*place, data.len() as u64);
-                let moved_before = check_write(before, &self.image, &self.opened, partition, range)?;
+                let finished = finish_write(&View::staged(before, &self.opened, partition), range, data);
+                require(finished.zero_digest.is_none(), || "accepted with a digest that is all zero".into())?;
+                let moved_before = check_write(before, &self.image, &self.opened, partition, range, &finished)?;
                 self.tally.writes_upon_writes += u64::from(moved_before);
-                self.tally.later_entries += u64::from(touched_master_entries(partition, range).end > 1);
+                self.tally.later_entries += u64::from(touched_on_each_level(partition, range)[0].end > 1);
+                self.tally.note_rebuilt(partition, &finished.rebuilt);
                 require(!data.is_empty() || self.image == before, || "an empty write changed the image".into())
             }
             _ => require(self.image == before, || "the image changed".into()),
@@ -517,7 +557,12 @@ pub fn compare_subject(
     require(other.answer == outcome.answer, || {
         format!("the subject answered {:#x}, not {:#x}", other.answer, outcome.answer)
     })?;
-    let place = (0..image.len()).find(|place| image[*place] != other_image[*place]);
+    // After 17 bytes that are free may hold anything.
+    let free = match open(before) {
+        Ok(opened) if outcome.answer == answer_code(Err(Refusal::ZeroDigest)) => free_bytes(before, &opened),
+        _ => vec![false; before.len()],
+    };
+    let place = (0..image.len()).find(|place| !free[*place] && image[*place] != other_image[*place]);
     require(place.is_none(), || format!("the subject's image differs at {:#x}", place.unwrap_or(0)))?;
     require(*session == other_session, || "the subject's session differs".into())?;
     require(other.buffer == outcome.buffer, || "the subject's buffer differs".into())?;

@@ -1,9 +1,10 @@
-//! Random cases: lists of calls on valid images, damaged images, images with random changes, signatures, blocks for
+//! Random cases: lists of calls on valid images, the same with digests of zeros, damaged images, images with random changes, signatures, blocks for
 //! signing, and running digests.
 
 pub mod call;
 mod digest;
 pub mod faults;
+mod fresh;
 mod full_bits;
 mod leftovers;
 pub mod list;
@@ -12,6 +13,7 @@ mod rows;
 mod signatures;
 mod signing;
 pub mod tally;
+mod zero_digests;
 
 use crate::description::Description;
 use crate::generate::damage::{any_damage, damaged_image, mutate, patient, DAMAGES};
@@ -37,12 +39,13 @@ use tally::Tally;
 pub fn run_case(seed: u64, subject: Option<&dyn Subject>, tally: &mut Tally) -> Result<(), String> {
     let random = &mut Random::new(seed);
     match random.below(100) {
-        0..=59 => {
+        0..=54 => {
             let sample = valid_image(random, &Wanted::default());
             let calls = random.between(1, 30);
             List::new(random, sample, subject, tally).run(random, calls)
         }
-        60..=73 => {
+        55..=60 => zero_digests::run_case(random, subject, tally),
+        61..=73 => {
             let damage = any_damage(random);
             let image = damaged_image(random, &damage).image;
             refused_image(random, image, damage.number, subject, tally)
@@ -66,8 +69,8 @@ pub fn run_case(seed: u64, subject: Option<&dyn Subject>, tally: &mut Tally) -> 
 /// How often every run tries each damage, so that each of its values comes up.
 const TRIES_OF_EACH_DAMAGE: u64 = 40;
 
-/// Cases that every run must have tried: each damage, levels of bits that are full, faults on every level, leftovers in the header,
-/// the limits of an image's length, each bit of a signature, a long message.
+/// Cases that every run must have tried: each damage, levels of bits that are full, faults on every level, first writes on fresh
+/// ground, digests of zeros, leftovers in the header, the limits of an image's length, each bit of a signature, a long message.
 pub fn run_fixed_cases(subject: Option<&dyn Subject>, tally: &mut Tally) -> Result<(), String> {
     let random = &mut Random::new(0);
     for damage in DAMAGES {
@@ -79,6 +82,8 @@ pub fn run_fixed_cases(subject: Option<&dyn Subject>, tally: &mut Tally) -> Resu
     }
     full_bits::run(subject, tally)?;
     faults::run(subject, tally)?;
+    fresh::run(subject, tally)?;
+    zero_digests::run(subject, tally)?;
     leftovers::run(subject, tally).map_err(|complaint| format!("leftovers: {complaint}"))?;
     let mut image = valid_image(&mut Random::new(0), &Wanted::default()).image;
     let signing_key = SigningKey::choose(random, &image);

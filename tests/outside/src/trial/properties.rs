@@ -3,7 +3,9 @@
 use std::ops::Range;
 
 use super::signatures::expected_signature;
+use crate::generate::contents::put;
 use crate::generate::signing::SigningKey;
+use crate::rules::block_hash::block_hash;
 use crate::rules::calls::{blocks_of, touched_blocks};
 use crate::rules::descriptor::{ENTRY, SELECTOR};
 use crate::rules::dpfs::{bit_place, View};
@@ -80,7 +82,67 @@ fn check_committed(before: &[u8], after: &[u8], opened: &Opened, signature: Rang
     Ok(())
 }
 
-/// Write changes the staged view in the written bytes and the entries alone, and moves exactly the copies that it must.
+/// What the staged view holds once a write has finished, worked out on whole levels without any copies.
+pub struct Finished {
+    /// IVFC levels 1 to 4.
+    levels: [Vec<u8>; 4],
+    master: Vec<u8>,
+    /// The hash blocks that were emptied, by level and number.
+    pub rebuilt: Vec<(usize, u128)>,
+    /// The level of a block whose digest is all zero, if there is one: the lowest in the tree.
+    pub zero_digest: Option<usize>,
+}
+
+/// Finishes a write on the staged view as it was: what was not verified is emptied, the data is laid over, and entries
+/// are brought up to date from level 3 up to the master hash.
+pub fn finish_write(staged: &View, range: Extent, data: &[u8]) -> Finished {
+    let shapes = staged.partition.descriptor.hash_levels;
+    let mut levels = [1, 2, 3, 4].map(|level| staged.level_bytes(level, 0, shapes[level - 1].extent.size));
+    let mut master = staged.master.to_vec();
+    let touched = touched_on_each_level(staged.partition, range);
+    let mut rebuilt = Vec::new();
+    for level in [1, 2, 3] {
+        let verified = staged.verified_blocks(level);
+        for block in touched[level].clone().filter(|block| !verified[*block as usize]) {
+            let own = shapes[level - 1].block_extent(block);
+            levels[level - 1][own.offset as usize..own.end() as usize].fill(0);
+            rebuilt.push((level, block));
+        }
+    }
+    levels[3][range.offset as usize..range.end() as usize].copy_from_slice(data);
+    let mut zero_digest = None;
+    for level in [4, 3, 2, 1] {
+        for block in touched[level].clone() {
+            let own = shapes[level - 1].block_extent(block);
+            let mut bytes = own.of(&levels[level - 1]).to_vec();
+            bytes.resize(1 << shapes[level - 1].log, 0);
+            let digest = block_hash(&bytes);
+            let above = if level == 1 { &mut master } else { &mut levels[level - 2] };
+            put(above, (ENTRY * block) as usize, &digest);
+            if digest == [0; 32] {
+                zero_digest = zero_digest.or(Some(level));
+            }
+        }
+    }
+    Finished { levels, master, rebuilt, zero_digest }
+}
+
+/// The blocks of levels 1 to 4 that a range of level 4 touches or that are above one; in front, the entries of the
+/// master hash.
+pub fn touched_on_each_level(partition: &Partition, range: Extent) -> [Range<u128>; 5] {
+    let mut touched = [const { 0..0 }; 5];
+    touched[4] = touched_blocks(partition, range);
+    for level in [3, 2, 1] {
+        let below = &touched[level + 1];
+        let entries = Extent { offset: ENTRY * below.start, size: ENTRY * (below.end - below.start) };
+        touched[level] = blocks_of(partition.descriptor.hash_level(level).block_size(), entries);
+    }
+    touched[0] = touched[1].clone();
+    touched
+}
+
+/// Write leaves the staged view as it must be once it has finished, and moves exactly the copies that it must. Blocks of
+/// level 4 that were not verified are so now if they were written, and only then.
 /// Answers whether one of the blocks that it reaches had moved before.
 pub fn check_write(
     before: &[u8],
@@ -88,25 +150,40 @@ pub fn check_write(
     opened: &Opened,
     partition: &Partition,
     range: Extent,
+    finished: &Finished,
 ) -> Result<bool, String> {
-    let descriptor = &partition.descriptor;
-    let stored = stored_ranges(partition, range);
-    let size = descriptor.level3.extent.size;
     let old = View::staged(before, opened, partition);
     let new = View::staged(after, opened, partition);
-    let old_bytes = old.level3_bytes(0, size);
-    let new_bytes = new.level3_bytes(0, size);
-    for (place, (old, new)) in old_bytes.iter().zip(&new_bytes).enumerate() {
-        let one = Extent { offset: place as u128, size: 1 };
-        let may_change = || stored.iter().any(|extent| !extent.disjoint(one));
-        require(old == new || may_change(), || format!("write: changed staged level 3 at {place:#x}"))?;
+    check_staged_bytes(&old, &new, finished)?;
+    check_staged_table(before, after, opened, partition, finished)?;
+    let touched = touched_blocks(partition, range);
+    for (block, (old, new)) in (0..).zip(old.verified_blocks(4).into_iter().zip(new.verified_blocks(4))) {
+        require(new == (old || touched.contains(&block)), || format!("write: block {block} is verified: {new}"))?;
     }
-    check_staged_table(before, after, opened, partition, range)?;
-    let live = View::committed(before, opened, partition);
+    check_moves(&old, &new, &View::committed(before, opened, partition), &stored_ranges(partition, range, finished))
+}
+
+/// The levels are as the finished write has them, and what lies between them is as before.
+fn check_staged_bytes(old: &View, new: &View, finished: &Finished) -> Result<(), String> {
+    let descriptor = &old.partition.descriptor;
+    let size = descriptor.level3.extent.size;
+    let mut expected = old.level3_bytes(0, size);
+    for (shape, bytes) in descriptor.hash_levels.iter().zip(&finished.levels) {
+        put(&mut expected, shape.extent.offset as usize, bytes);
+    }
+    let bytes = new.level3_bytes(0, size);
+    let place = (0..bytes.len()).find(|place| bytes[*place] != expected[*place]);
+    require(place.is_none(), || format!("write: staged level 3 is wrong at {:#x}", place.unwrap_or(0)))
+}
+
+/// The level 3 blocks that were stored to, and the level 2 blocks with their bits, are off the live copies; no other has
+/// moved. Answers whether one of those stored to had moved before.
+fn check_moves(old: &View, new: &View, live: &View, stored: &[Extent]) -> Result<bool, String> {
+    let descriptor = &old.partition.descriptor;
     let mut moved_before = false;
     let mut level2_reached = vec![false; descriptor.level2.blocks() as usize];
     for block in 0..descriptor.level3.blocks() {
-        let extent = Extent { offset: block * descriptor.level3.block_size(), size: descriptor.level3.block_size() };
+        let extent = descriptor.level3.block_extent(block);
         let reached = stored.iter().any(|stored| !stored.disjoint(extent));
         let apart = old.level3_copy(block) != live.level3_copy(block);
         let apart_now = new.level3_copy(block) != live.level3_copy(block);
@@ -125,49 +202,46 @@ pub fn check_write(
     Ok(moved_before)
 }
 
-/// Of the staged table a write changes the master hash's entries for the touched blocks of level 1 alone.
+/// Of the staged table a write changes the master hash alone, to what the finished write has.
 fn check_staged_table(
     before: &[u8],
     after: &[u8],
     opened: &Opened,
     partition: &Partition,
-    range: Extent,
+    finished: &Finished,
 ) -> Result<(), String> {
-    let entries = touched_master_entries(partition, range);
-    let start = partition.place.descriptor.offset + partition.descriptor.master.offset;
-    let stored = Extent { offset: start + ENTRY * entries.start, size: ENTRY * (entries.end - entries.start) };
     let table = opened.header.inactive_table();
-    for (place, (old, new)) in table.of(before).iter().zip(table.of(after)).enumerate() {
-        let may_change = !stored.disjoint(Extent { offset: place as u128, size: 1 });
-        require(old == new || may_change, || format!("write: changed the staged table at {place:#x}"))?;
-    }
-    Ok(())
+    let mut expected = table.of(before).to_vec();
+    put(
+        &mut expected,
+        (partition.place.descriptor.offset + partition.descriptor.master.offset) as usize,
+        &finished.master,
+    );
+    let place = table.of(after).iter().zip(&expected).position(|(new, right)| new != right);
+    require(place.is_none(), || format!("write: the staged table is wrong at {:#x}", place.unwrap_or(0)))
 }
 
-/// The master hash's entries above a range of level 4.
-pub fn touched_master_entries(partition: &Partition, range: Extent) -> Range<u128> {
-    let mut touched = touched_blocks(partition, range);
-    for level in [3, 2, 1] {
-        let entries = Extent { offset: ENTRY * touched.start, size: ENTRY * (touched.end - touched.start) };
-        touched = blocks_of(partition.descriptor.hash_level(level).block_size(), entries);
-    }
-    touched
-}
-
-/// Where a write stores in DPFS level 3: its bytes, and the entries of the touched blocks in levels 3, 2 and 1.
-fn stored_ranges(partition: &Partition, range: Extent) -> Vec<Extent> {
-    let descriptor = &partition.descriptor;
-    let data = descriptor.hash_level(4).extent.offset;
-    let mut stored = vec![Extent { offset: data + range.offset, size: range.size }];
-    let mut touched = touched_blocks(partition, range);
-    if touched.is_empty() {
+/// Where a write stores in DPFS level 3: its bytes, the entries of the touched blocks in levels 3, 2 and 1, and all
+/// entries of the blocks that it rebuilds.
+fn stored_ranges(partition: &Partition, range: Extent, finished: &Finished) -> Vec<Extent> {
+    if range.size == 0 {
         return Vec::new();
     }
-    for level in [3, 2, 1] {
-        let shape = descriptor.hash_level(level);
-        let entries = Extent { offset: ENTRY * touched.start, size: ENTRY * (touched.end - touched.start) };
-        stored.push(Extent { offset: shape.extent.offset + entries.offset, size: entries.size });
-        touched = blocks_of(shape.block_size(), entries);
+    let shapes = partition.descriptor.hash_levels;
+    let touched = touched_on_each_level(partition, range);
+    let mut stored = vec![Extent { offset: shapes[3].extent.offset + range.offset, size: range.size }];
+    for level in [1, 2, 3] {
+        let below = &touched[level + 1];
+        let offset = shapes[level - 1].extent.offset + ENTRY * below.start;
+        stored.push(Extent { offset, size: ENTRY * (below.end - below.start) });
     }
+    stored.extend(finished.rebuilt.iter().map(|(level, block)| rebuilt_extent(partition, *level, *block)));
     stored
+}
+
+/// Where a hash block lies in DPFS level 3.
+pub fn rebuilt_extent(partition: &Partition, level: usize, block: u128) -> Extent {
+    let shape = partition.descriptor.hash_level(level);
+    let own = shape.block_extent(block);
+    Extent { offset: shape.extent.offset + own.offset, size: own.size }
 }

@@ -1,5 +1,9 @@
 //! How often each call gave each answer, so that a run shows what it has tried.
 
+use super::properties::rebuilt_extent;
+use crate::rules::calls::blocks_of;
+use crate::rules::opening::Partition;
+
 pub const CALLS: [&str; 17] = [
     "open",
     "read committed",
@@ -34,11 +38,27 @@ pub struct Tally {
     pub later_entries: u64,
     /// Accepted calls over blocks that may be hashed side by side.
     pub rows: u64,
+    /// Hash blocks that writes have rebuilt, by level; those that lie in several blocks of DPFS level 3; those that end short.
+    pub rebuilt: [u64; 3],
+    pub rebuilt_across: u64,
+    pub rebuilt_short: u64,
+    /// Writes that met a digest of zeros, by the level of the block that has it.
+    pub zero_digests: [u64; 4],
 }
 
 impl Tally {
     pub fn note(&mut self, call: &str, answer: u64) {
         self.answers[row(call)][(answer & 0xFF) as usize] += 1;
+    }
+
+    pub fn note_rebuilt(&mut self, partition: &Partition, rebuilt: &[(usize, u128)]) {
+        for (level, block) in rebuilt {
+            let extent = rebuilt_extent(partition, *level, *block);
+            let unit = partition.descriptor.level3.block_size();
+            self.rebuilt[level - 1] += 1;
+            self.rebuilt_across += u64::from(blocks_of(unit, extent).count() > 1);
+            self.rebuilt_short += u64::from(extent.size < partition.descriptor.hash_level(*level).block_size());
+        }
     }
 
     pub fn count(&self, call: &str, number: usize) -> u64 {
@@ -72,6 +92,11 @@ impl std::fmt::Display for Tally {
             out,
             "\npower failures {}, writes upon moved blocks {}, writes to later master entries {}, calls over rows of eight blocks {}",
             self.power_failures, self.writes_upon_writes, self.later_entries, self.rows
+        )?;
+        write!(
+            out,
+            "\nhash blocks rebuilt on levels 1 to 3 {:?}, across blocks of DPFS level 3 {}, with a short end {}; digests of zeros on levels 1 to 4 {:?}",
+            self.rebuilt, self.rebuilt_across, self.rebuilt_short, self.zero_digests
         )
     }
 }
