@@ -1,5 +1,8 @@
 //! Which half is live: bits, live copies, and the bytes of DPFS level 3 as one view sees them.
 
+use std::cell::RefCell;
+use std::collections::HashMap;
+
 use super::descriptor::SELECTOR;
 use super::opening::{Opened, Partition};
 
@@ -17,6 +20,8 @@ pub struct View<'a> {
     pub selector: u128,
     /// The master hash that this table holds.
     pub master: &'a [u8],
+    /// Which blocks are verified, by level and number, as far as that was asked: while the view is there, nothing changes.
+    pub(super) judged: RefCell<HashMap<(usize, u128), bool>>,
 }
 
 impl<'a> View<'a> {
@@ -34,7 +39,13 @@ impl<'a> View<'a> {
     fn under(image: &'a [u8], table: u128, partition: &'a Partition) -> View<'a> {
         let descriptor = &image[(table + partition.place.descriptor.offset) as usize..];
         let selector = descriptor[SELECTOR].into();
-        View { image, partition, selector, master: partition.descriptor.master.of(descriptor) }
+        View {
+            image,
+            partition,
+            selector,
+            master: partition.descriptor.master.of(descriptor),
+            judged: RefCell::default(),
+        }
     }
 
     /// The image's position of a place in the partition.

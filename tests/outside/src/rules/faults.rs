@@ -20,13 +20,9 @@ pub fn faults(image: &[u8]) -> Result<Vec<FaultRecord>, Refusal> {
     for (number, partition) in opened.partitions.iter().enumerate() {
         let view = View::committed(image, &opened, partition);
         for level in 1..=4 {
-            let blocks = 0..partition.descriptor.hash_level(level).blocks();
-            let bad = blocks.filter(|block| !view.verified(level, *block));
-            list.extend(bad.map(|block| FaultRecord {
-                partition: number as u64,
-                level: level as u64,
-                block: block as u64,
-            }));
+            let blocks = (0..).zip(view.verified_blocks(level));
+            let bad = blocks.filter(|(_, verified)| !verified);
+            list.extend(bad.map(|(block, _)| FaultRecord { partition: number as u64, level: level as u64, block }));
         }
     }
     Ok(list)

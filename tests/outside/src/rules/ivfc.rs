@@ -57,7 +57,13 @@ impl View<'_> {
 
     /// A block is verified when its entry matches and the block holding that entry is verified too.
     pub fn verified(&self, level: usize, block: u128) -> bool {
-        self.entry_matches(level, block) && (level == 1 || self.verified(level - 1, self.holder(level - 1, block)))
+        if let Some(verified) = self.judged.borrow().get(&(level, block)) {
+            return *verified;
+        }
+        let verified =
+            self.entry_matches(level, block) && (level == 1 || self.verified(level - 1, self.holder(level - 1, block)));
+        self.judged.borrow_mut().insert((level, block), verified);
+        verified
     }
 
     /// Which blocks of a level are verified, all at once: each block is hashed one time only.
