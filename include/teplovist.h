@@ -26,10 +26,10 @@ extern "C" {
 
 /*
  * Answers. The low 8 bits of an answer are 0 if the call is accepted and else the refusal's number; the bits above are a value: for an
- * accepted teplovist_verified 1 for yes and 0 for no, for an accepted teplovist_count_verified the count, for an accepted teplovist_faults the
- * number of all faults, for an accepted
- * teplovist_signing_block the block's length, for the refusals 10 and 11 the lowest block of level 4 to which they apply, and else 0. The
- * first check that fails decides; a call that is refused changes nothing.
+ * accepted teplovist_verified 1 for yes and 0 for no, for an accepted teplovist_count_verified the count, for an accepted teplovist_faults
+ * the number of all faults, for an accepted teplovist_signing_block the block's length, for the refusal 10 the lowest block of level 4 to
+ * which it applies, and else 0. The first check that fails decides; a call that is refused changes nothing, but for a write's 17: it ends the
+ * session.
  */
 #define TEPLOVIST_REFUSAL(answer) ((unsigned)((answer) & 0xFF))
 #define TEPLOVIST_VALUE(answer) ((uint64_t)(answer) >> 8)
@@ -46,12 +46,12 @@ enum {
     TEPLOVIST_NO_PARTITION = 8,     /* there is no such partition */
     TEPLOVIST_OUT_OF_RANGE = 9,     /* place plus length exceeds level 4's size; there is no such block */
     TEPLOVIST_UNVERIFIED = 10,      /* read: a touched block is not verified; write: one that it covers only in part is not */
-    TEPLOVIST_UNVERIFIED_ABOVE = 11, /* write: a hash block above a touched block is not verified */
     TEPLOVIST_EXTERNAL_LEVEL = 12,  /* write: the partition's level 4 is external */
     TEPLOVIST_SESSION_STATE = 13,   /* the session is idle where begun is needed, or begun where idle is */
     TEPLOVIST_STALE = 14,           /* the header or the inactive table is not as the session left it */
     TEPLOVIST_SIGNER_KIND = 15,     /* the container's kind does not fit the signer's type */
     TEPLOVIST_SIGNATURE = 16,       /* the first 16 bytes are not the signature */
+    TEPLOVIST_ZERO_DIGEST = 17,     /* write: a digest that the finished write would hold is all zero; the session is idle */
     TEPLOVIST_DIGEST_TOO_LONG = 22  /* a running digest was fed, or would be, more than 2^61 - 1 bytes */
 };
 
@@ -197,10 +197,12 @@ uint64_t teplovist_faults(const uint8_t *image, size_t image_length, teplovist_f
 uint64_t teplovist_begin(uint8_t *image, size_t image_length, uint8_t *session);
 
 /*
- * Writes data to a partition's staged level 4 from a place on and brings its hashes up to date. The committed view does not change, nor
- * do the session's bytes. Refusals: 13, 14, 8, 12, 9, 11, 10.
+ * Writes data to a partition's staged level 4 from a place on and brings its hashes up to date. A hash block above it that is not verified is
+ * rebuilt: every entry is zero but those above what was written, so that no other block starts to be verified. The committed view does not
+ * change. Refusals: 13, 14, 8, 12, 9, 10, and last 17. With 17 the session is idle, all its bytes zero, and staged bytes may have changed;
+ * with any other answer the session's bytes stay.
  */
-uint64_t teplovist_write(uint8_t *image, size_t image_length, const uint8_t *session, uint64_t partition, uint64_t place,
+uint64_t teplovist_write(uint8_t *image, size_t image_length, uint8_t *session, uint64_t partition, uint64_t place,
                          const uint8_t *data, size_t data_length);
 
 /*

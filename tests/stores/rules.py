@@ -41,7 +41,7 @@ LENT = {
     'gateway::teplovist_read_staged': {5: 'buffer'},
     'gateway::teplovist_faults': {2: 'row'},
     'gateway::teplovist_begin': {1: 'image', 2: 'session'},
-    'gateway::teplovist_write': {1: 'image'},
+    'gateway::teplovist_write': {1: 'image', 2: 'session'},
     'gateway::teplovist_commit': {1: 'image', 2: 'session'},
     'gateway::teplovist_commit_signed': {1: 'image', 2: 'session'},
     'gateway::teplovist_abandon': {1: 'session'},

@@ -28,6 +28,8 @@ use Rattle.steps.specs.declared.Verdict.{Verdict}
 use Rattle.steps.specs.declared.Verdict.the-variants as verdict
 use Rattle.steps.specs.declared.Count.{Count}
 use Rattle.steps.specs.declared.Count.the-variants as count
+use Rattle.steps.specs.declared.Ending.{Ending}
+use Rattle.steps.specs.declared.Ending.the-variants as ending
 use Rattle.steps.specs.declared.Session.{Session}
 use Rattle.steps.specs.Calls.{After}
 
@@ -44,6 +46,12 @@ refusedAnswer r = packed (number r) (carried r)
 abbrev pub outcomeAnswer : Outcome → ℕ
 outcomeAnswer outcome.Accepted = packed 0 0
 outcomeAnswer (outcome.Refused r) = refusedAnswer r
+
+-- a write that is dropped is refusal 17
+abbrev pub endingAnswer : Ending → ℕ
+endingAnswer ending.Accepted = packed 0 0
+endingAnswer (ending.Refused r) = refusedAnswer r
+endingAnswer ending.Dropped = packed 17 0
 
 -- 1 for yes, 0 for no
 abbrev pub verdictAnswer : Verdict → ℕ
@@ -68,15 +76,22 @@ unfoldable pub sessionBytes : Session → List ℕ
 sessionBytes session = cond (session .begun) 1 0 ∷ session .header
 
 -- a call that is accepted stores the session after it; one that is refused leaves the bytes alone
-abbrev pub sessionLeft : Outcome → (before : List ℕ) → Session → List ℕ
-sessionLeft outcome.Accepted before session = sessionBytes session
-sessionLeft (outcome.Refused r) before session = before
+abbrev pub sessionLeft : Ending → (before : List ℕ) → Session → List ℕ
+sessionLeft ending.Accepted before session = sessionBytes session
+sessionLeft (ending.Refused r) before session = before
+sessionLeft ending.Dropped before session = sessionBytes session
+
+-- a write leaves them alone, unless it is dropped
+abbrev pub writeLeft : Ending → (before : List ℕ) → Session → List ℕ
+writeLeft ending.Accepted before session = before
+writeLeft (ending.Refused r) before session = before
+writeLeft ending.Dropped before session = sessionBytes session
 
 -- what a call on a session answers, and the image and the session's bytes that it leaves
-pub record Called (answer : ℕ) (image : List ℕ) (before bytes : List ℕ) (after : After) : Type 0 where
-  pub outcome : answer ≡ outcomeAnswer (after .outcome)
+pub record Called (left : Ending → (before : List ℕ) → Session → List ℕ) (answer : ℕ) (image : List ℕ) (before bytes : List ℕ) (after : After) : Type 0 where
+  pub outcome : answer ≡ endingAnswer (after .outcome)
   pub stored : image ≡ after .image
-  pub session : bytes ≡ sessionLeft (after .outcome) before (after .session)
+  pub session : bytes ≡ left (after .outcome) before (after .session)
 
 -- ---- a description is 80 numbers
 

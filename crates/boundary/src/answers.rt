@@ -6,9 +6,10 @@ use layout::refusals::carried_by;
 use layout::refusals::number_of;
 use signing::Built;
 use steps::Count;
+use steps::Ending;
 use steps::Verdict;
 ghost use mathlib.Core.Path.{_≡_};
-ghost use Rattle.boundary.specs.Boundary.{packed, refusedAnswer, outcomeAnswer, verdictAnswer, countAnswer, openedAnswer};
+ghost use Rattle.boundary.specs.Boundary.{packed, refusedAnswer, outcomeAnswer, endingAnswer, verdictAnswer, countAnswer, openedAnswer};
 ghost use Rattle.boundary.specs.Signers.{builtAnswer};
 
 fn pack(number: u64, value: u64) -> u64
@@ -29,6 +30,17 @@ pub fn outcome_answer(outcome: Outcome) -> u64
     match outcome {
         Outcome::Accepted => pack(0, 0),
         Outcome::Refused(refusal) => refused_answer(refusal),
+    }
+}
+
+// A dropped write is refusal 17.
+pub fn ending_answer(ending: Ending) -> u64
+    ensures { λ r. ⌜ r ≡ endingAnswer ending ⌝ }
+{
+    match ending {
+        Ending::Accepted => pack(0, 0),
+        Ending::Refused(refusal) => refused_answer(refusal),
+        Ending::Dropped => pack(17, 0),
     }
 }
 

@@ -1,10 +1,10 @@
 // A session as its caller keeps it: 257 bytes, the first 0 for idle and anything else for begun, then the remembered header.
-use layout::Outcome;
 use number::runs::copy_into;
+use steps::Ending;
 use steps::Session;
 use steps::Step;
 ghost use mathlib.Core.Path.{_≡_};
-ghost use Rattle.boundary.specs.Boundary.{sessionOf, sessionBytes, sessionLeft};
+ghost use Rattle.boundary.specs.Boundary.{sessionOf, sessionBytes, sessionLeft, writeLeft};
 
 // The session that the bytes are.
 pub fn session_of(bytes: [u8; 257]) -> Session
@@ -34,16 +34,35 @@ fn session_bytes(session: Session) -> [u8; 257]
     join(session.begun, header)
 }
 
-// The bytes after a call: of an accepted one the session after it, else those before.
+// The bytes after a call: of a refused one those before, else the session after it.
 pub fn session_left(step: Step, before: [u8; 257]) -> [u8; 257]
     ensures { λ r. ⌜ r ≡ sessionLeft (step .outcome) before (step .session) ⌝ }
 {
     let outcome = step.outcome;
     match outcome {
-        Outcome::Accepted => {
+        Ending::Accepted => {
             let session = step.session;
             session_bytes(session)
         }
-        Outcome::Refused(_) => before,
+        Ending::Refused(_) => before,
+        Ending::Dropped => {
+            let session = step.session;
+            session_bytes(session)
+        }
+    }
+}
+
+// The bytes after a write: those before, unless it is dropped.
+pub fn write_left(step: Step, before: [u8; 257]) -> [u8; 257]
+    ensures { λ r. ⌜ r ≡ writeLeft (step .outcome) before (step .session) ⌝ }
+{
+    let outcome = step.outcome;
+    match outcome {
+        Ending::Accepted => before,
+        Ending::Refused(_) => before,
+        Ending::Dropped => {
+            let session = step.session;
+            session_bytes(session)
+        }
     }
 }

@@ -8,12 +8,14 @@ use layout::headers::header_of;
 use layout::opening::open;
 use signing::Signer;
 use signing::answers::judge_signer;
+use steps::Ending;
 use steps::Session;
 use steps::Step;
 use steps::answers::has_partition;
 use steps::answers::refusal_of;
 use steps::beginning::stage_image;
 use steps::staleness::is_current;
+use steps::writing::idle_session;
 use steps::writing::refused;
 use steps::writing::write_partition;
 use views::places::space_of;
@@ -26,10 +28,7 @@ ghost use Rattle.steps.specs.Calls.{Stepped};
 pub fn new() -> Session
     ensures { λ r. ⌜ r ≡ idle ⌝ }
 {
-    Session {
-        begun: false,
-        header: [0u8; 256],
-    }
+    idle_session()
 }
 
 // Starts a session: stages the inactive table and the other halves of level 1, and remembers the header.
@@ -46,7 +45,7 @@ pub fn begin(image: &mut [u8], session: Session) -> Step
     let header = header_of(image);
     stage_image(space_of(c), c, image);
     Step {
-        outcome: Outcome::Accepted,
+        outcome: Ending::Accepted,
         session: Session {
             begun: true,
             header,
@@ -54,7 +53,7 @@ pub fn begin(image: &mut [u8], session: Session) -> Step
     }
 }
 
-// Writes bytes to a partition's staged level 4 from a place on.
+// Writes bytes to a partition's staged level 4 from a place on. A write that would hold a digest of all zeros ends the session with 17.
 pub fn write(image: &mut [u8], session: Session, partition: u64, place: u64, bytes: &[u8]) -> Step
     ensures { λ r. ⌜ Stepped r (now (image .exit)) (calls.write (now (image .entry)) session partition place (now (bytes .entry))) ⌝ }
 {
@@ -90,7 +89,7 @@ pub fn commit(image: &mut [u8], session: Session) -> Step
     }
     switch_tables(image, c);
     Step {
-        outcome: Outcome::Accepted,
+        outcome: Ending::Accepted,
         session: new(),
     }
 }
@@ -109,17 +108,15 @@ pub fn commit_signed(image: &mut [u8], session: Session, key: [u8; 16], signer: 
     if !is_current(image, c, session) {
         return refused(session, Refusal::Stale);
     }
-    let fit = judge_signer(image, signer);
-    let Outcome::Accepted = fit else {
-        return Step {
-            outcome: fit,
-            session,
-        };
-    };
-    switch_signed(image, c, key, signer);
-    Step {
-        outcome: Outcome::Accepted,
-        session: new(),
+    match judge_signer(image, signer) {
+        Outcome::Refused(refusal) => refused(session, refusal),
+        Outcome::Accepted => {
+            switch_signed(image, c, key, signer);
+            Step {
+                outcome: Ending::Accepted,
+                session: new(),
+            }
+        }
     }
 }
 
@@ -131,7 +128,7 @@ pub fn abandon(session: Session) -> Step
         return refused(session, Refusal::SessionState);
     }
     Step {
-        outcome: Outcome::Accepted,
+        outcome: Ending::Accepted,
         session: new(),
     }
 }

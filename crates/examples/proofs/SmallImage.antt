@@ -26,7 +26,7 @@ use Rattle.layout.proofs.GuaranteeLaws.{opens}
 use Rattle.dpfs.specs.Bits.{bitByte, bitPlace, testBit, wordOf, bitOf}
 use Rattle.dpfs.specs.Tree.{place, levelByte, select1, select2, select3, content}
 use Rattle.ivfc.specs.Blocks.{block, entry, parent}
-use Rattle.ivfc.specs.Verified.{vouches, matches, verified}
+use Rattle.ivfc.specs.Verified.{zeroEntry, vouches, matches, verified}
 use Rattle.ivfc.specs.Views.{levelOf, innerByte, contentOf}
 use Rattle.views.specs.Places.{slotOf, partitionOf, treeIn, masterIn, viewIn, committedView}
 
@@ -129,5 +129,5 @@ small-opens = opens smallImage smallContainer (record {
 
 -- the one block of level 4 is verified in the committed view
 pub small-verified : verified (levelOf (committedView smallContainer 0)) (contentOf (committedView smallContainer 0) smallImage) 4 0 ≡ true
-unfolding smallContainer smallImage table header tableHash master level1 level2 level3 part sameBytes diffHeader le64 le32 le16 active partitionFields difiFields ivfcFields dpfsFields slotOf partitionOf treeIn masterIn viewIn committedView levelOf innerByte contentOf place levelByte select1 select2 select3 content bitByte bitPlace testBit wordOf bitOf blockSize blockOf blockLength bytes block entry parent vouches matches verified K words next extend schedule T₁ T₂ round rounds added compress bytes64 padding padded hashed digestBytes digestFrom sha256
+unfolding smallContainer smallImage table header tableHash master level1 level2 level3 part sameBytes diffHeader le64 le32 le16 active partitionFields difiFields ivfcFields dpfsFields slotOf partitionOf treeIn masterIn viewIn committedView levelOf innerByte contentOf place levelByte select1 select2 select3 content bitByte bitPlace testBit wordOf bitOf blockSize blockOf blockLength bytes block entry parent zeroEntry vouches matches verified K words next extend schedule T₁ T₂ round rounds added compress bytes64 padding padded hashed digestBytes digestFrom sha256
 small-verified = refl

@@ -2,48 +2,52 @@
 use Prim.Native.Nat.{ℕ}
 use mathlib.Core.Path.{_≡_, _∙_, subst}
 use mathlib.Core.List.{List}
-use Rattle.steps.specs.declared.Session.{Session}
 use Rattle.layout.specs.declared.Outcome.{Outcome}
+use Rattle.steps.specs.declared.Session.{Session}
+use Rattle.steps.specs.declared.Ending.{Ending}
 use Rattle.steps.specs.declared.Step.{Step}
 use Rattle.steps.specs.Calls.{After, Stepped}
 use Rattle.signing.specs.declared.Signer.{Signer}
-use Rattle.boundary.specs.Boundary.{outcomeAnswer, sessionOf, sessionLeft, Called}
+use Rattle.boundary.specs.Boundary.{outcomeAnswer, endingAnswer, sessionOf, Called}
 
--- the answer of an outcome that is known
+-- the answer of an outcome, and of an ending, that is known
 pub answered : {answer : ℕ} {o o' : Outcome} → answer ≡ outcomeAnswer o → o ≡ o' → answer ≡ outcomeAnswer o'
 answered p q = p ∙ λ i. outcomeAnswer (q i)
 
+pub ended : {answer : ℕ} {o o' : Ending} → answer ≡ endingAnswer o → o ≡ o' → answer ≡ endingAnswer o'
+ended p q = p ∙ λ i. endingAnswer (q i)
+
 -- the session's bytes after an outcome and a session that are known
 pub left :
-    (before : List ℕ) {bytes : List ℕ} {o o' : Outcome} {s s' : Session} →
-    bytes ≡ sessionLeft o before s →
+    (rule : Ending → List ℕ → Session → List ℕ) (before : List ℕ) {bytes : List ℕ} {o o' : Ending} {s s' : Session} →
+    bytes ≡ rule o before s →
     o ≡ o' →
     s ≡ s' →
-    bytes ≡ sessionLeft o' before s'
-left before p q r = p ∙ λ i. sessionLeft (q i) before (r i)
+    bytes ≡ rule o' before s'
+left rule before p q r = p ∙ λ i. rule (q i) before (r i)
 
 -- a call that stores the session which it leaves
 pub called :
-    (call : Session → After) {answer : ℕ} {image before bytes : List ℕ} {s : Session} {step : Step} →
+    {rule : Ending → List ℕ → Session → List ℕ} (call : Session → After) {answer : ℕ} {image before bytes : List ℕ} {s : Session} {step : Step} →
     s ≡ sessionOf before →
     Stepped step image (call s) →
-    bytes ≡ sessionLeft (step .outcome) before (step .session) →
-    answer ≡ outcomeAnswer (step .outcome) →
-    Called answer image before bytes (call (sessionOf before))
-called call {before = before} of step bytes answer = record {
-  outcome = answered answer (step .outcome ∙ λ i. call (of i) .outcome);
+    bytes ≡ rule (step .outcome) before (step .session) →
+    answer ≡ endingAnswer (step .outcome) →
+    Called rule answer image before bytes (call (sessionOf before))
+called {rule = rule} call {before = before} of step bytes answer = record {
+  outcome = ended answer (step .outcome ∙ λ i. call (of i) .outcome);
   stored = step .stored ∙ λ i. call (of i) .image;
-  session = left before bytes (step .outcome ∙ λ i. call (of i) .outcome) (step .session ∙ λ i. call (of i) .session);
+  session = left rule before bytes (step .outcome ∙ λ i. call (of i) .outcome) (step .session ∙ λ i. call (of i) .session);
 }
 
 -- the same of a call that a signer signs
 pub called-by :
-    (call : Session → Signer → After) {answer : ℕ} {image before bytes : List ℕ} {s : Session} {signer signer' : Signer} {step : Step} →
+    {rule : Ending → List ℕ → Session → List ℕ} (call : Session → Signer → After) {answer : ℕ} {image before bytes : List ℕ} {s : Session} {signer signer' : Signer} {step : Step} →
     s ≡ sessionOf before →
     signer ≡ signer' →
     Stepped step image (call s signer) →
-    bytes ≡ sessionLeft (step .outcome) before (step .session) →
-    answer ≡ outcomeAnswer (step .outcome) →
-    Called answer image before bytes (call (sessionOf before) signer')
+    bytes ≡ rule (step .outcome) before (step .session) →
+    answer ≡ endingAnswer (step .outcome) →
+    Called rule answer image before bytes (call (sessionOf before) signer')
 called-by call {image = image} {s = s} {signer' = signer'} {step = step} of own stepped bytes answer =
     called (λ x. call x signer') of (subst (λ x. Stepped step image (call s x)) own stepped) bytes answer

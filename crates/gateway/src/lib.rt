@@ -2,6 +2,7 @@
 // anything of its caller but pointers that are good.
 use boundary::answers::built_answer;
 use boundary::answers::count_answer;
+use boundary::answers::ending_answer;
 use boundary::answers::opened_answer;
 use boundary::answers::outcome_answer;
 use boundary::answers::verdict_answer;
@@ -12,6 +13,7 @@ use boundary::digests::state_bytes;
 use boundary::digests::state_left;
 use boundary::memory::session_left;
 use boundary::memory::session_of;
+use boundary::memory::write_left;
 use boundary::signers::signer_of;
 use container::blocks;
 use container::reading;
@@ -27,7 +29,7 @@ ghost use Rattle.sha256.specs.Running.{stateOf, fresh};
 ghost use Rattle.signing.specs.Calls.{signed, outcomeOf, builtAs, blockLeft, digestLeft};
 ghost use Rattle.signatures.specs.Signatures.{openedSigned};
 ghost use Rattle.steps.specs.Calls as calls;
-ghost use Rattle.boundary.specs.Boundary.{outcomeAnswer, verdictAnswer, countAnswer, openedAnswer, descriptionLeft, sessionOf, sessionLeft, Called};
+ghost use Rattle.boundary.specs.Boundary.{outcomeAnswer, endingAnswer, verdictAnswer, countAnswer, openedAnswer, descriptionLeft, sessionOf, sessionLeft, writeLeft, Called};
 ghost use Rattle.boundary.specs.Digests.{runningOf, FedBytes, FinishedBytes};
 ghost use Rattle.boundary.specs.Signers.{signerOf, builtAnswer};
 
@@ -116,42 +118,43 @@ pub extern "C" fn teplovist_faults(image: &[u8], row: &mut [Fault]) -> u64
 // Starts a session.
 #[no_mangle]
 pub extern "C" fn teplovist_begin(image: &mut [u8], session: &mut [u8; 257]) -> u64
-    ensures { λ r. ⌜ Called r (now (image .exit)) (now (session .entry)) (now (session .exit)) (calls.begin (now (image .entry)) (sessionOf (now (session .entry)))) ⌝ }
+    ensures { λ r. ⌜ Called sessionLeft r (now (image .exit)) (now (session .entry)) (now (session .exit)) (calls.begin (now (image .entry)) (sessionOf (now (session .entry)))) ⌝ }
 {
     let before = *session;
     let begun = sessions::begin(image, session_of(before));
     *session = session_left(begun, before);
     let outcome = begun.outcome;
-    outcome_answer(outcome)
+    ending_answer(outcome)
 }
 
-// Writes bytes to a partition's staged level 4. A write leaves its session as it was, so the session's bytes are only read.
+// Writes bytes to a partition's staged level 4. Only a write that ends in 17 changes the session's bytes.
 #[no_mangle]
 pub extern "C" fn teplovist_write(
     image: &mut [u8],
-    session: &[u8; 257],
+    session: &mut [u8; 257],
     partition: u64,
     place: u64,
     bytes: &[u8],
 ) -> u64
-    ensures { λ r. ⌜ (r ≡ outcomeAnswer (calls.write (now (image .entry)) (sessionOf (now (session .entry))) partition place (now (bytes .entry)) .outcome)) × (now (image .exit) ≡ calls.write (now (image .entry)) (sessionOf (now (session .entry))) partition place (now (bytes .entry)) .image) ⌝ }
+    ensures { λ r. ⌜ Called writeLeft r (now (image .exit)) (now (session .entry)) (now (session .exit)) (calls.write (now (image .entry)) (sessionOf (now (session .entry))) partition place (now (bytes .entry))) ⌝ }
 {
-    let remembered = *session;
-    let written = sessions::write(image, session_of(remembered), partition, place, bytes);
+    let before = *session;
+    let written = sessions::write(image, session_of(before), partition, place, bytes);
+    *session = write_left(written, before);
     let outcome = written.outcome;
-    outcome_answer(outcome)
+    ending_answer(outcome)
 }
 
 // Makes what is staged the committed one.
 #[no_mangle]
 pub extern "C" fn teplovist_commit(image: &mut [u8], session: &mut [u8; 257]) -> u64
-    ensures { λ r. ⌜ Called r (now (image .exit)) (now (session .entry)) (now (session .exit)) (calls.commit (now (image .entry)) (sessionOf (now (session .entry)))) ⌝ }
+    ensures { λ r. ⌜ Called sessionLeft r (now (image .exit)) (now (session .entry)) (now (session .exit)) (calls.commit (now (image .entry)) (sessionOf (now (session .entry)))) ⌝ }
 {
     let before = *session;
     let committed = sessions::commit(image, session_of(before));
     *session = session_left(committed, before);
     let outcome = committed.outcome;
-    outcome_answer(outcome)
+    ending_answer(outcome)
 }
 
 // The same with the signature of the new header, under a key.
@@ -162,7 +165,7 @@ pub extern "C" fn teplovist_commit_signed(
     key: &[u8; 16],
     signer: &[u64; 4],
 ) -> u64
-    ensures { λ r. ⌜ Called r (now (image .exit)) (now (session .entry)) (now (session .exit)) (calls.commitSigned (now (image .entry)) (sessionOf (now (session .entry))) (now (key .entry)) (signerOf (now (signer .entry)))) ⌝ }
+    ensures { λ r. ⌜ Called sessionLeft r (now (image .exit)) (now (session .entry)) (now (session .exit)) (calls.commitSigned (now (image .entry)) (sessionOf (now (session .entry))) (now (key .entry)) (signerOf (now (signer .entry)))) ⌝ }
 {
     let before = *session;
     let secret = *key;
@@ -175,19 +178,19 @@ pub extern "C" fn teplovist_commit_signed(
     );
     *session = session_left(committed, before);
     let outcome = committed.outcome;
-    outcome_answer(outcome)
+    ending_answer(outcome)
 }
 
 // Ends a session without a look at the image.
 #[no_mangle]
 pub extern "C" fn teplovist_abandon(session: &mut [u8; 257]) -> u64
-    ensures { λ r. ⌜ (r ≡ outcomeAnswer (calls.abandon (sessionOf (now (session .entry))) .outcome)) × (now (session .exit) ≡ sessionLeft (calls.abandon (sessionOf (now (session .entry))) .outcome) (now (session .entry)) (calls.abandon (sessionOf (now (session .entry))) .session)) ⌝ }
+    ensures { λ r. ⌜ (r ≡ endingAnswer (calls.abandon (sessionOf (now (session .entry))) .outcome)) × (now (session .exit) ≡ sessionLeft (calls.abandon (sessionOf (now (session .entry))) .outcome) (now (session .entry)) (calls.abandon (sessionOf (now (session .entry))) .session)) ⌝ }
 {
     let before = *session;
     let abandoned = sessions::abandon(session_of(before));
     *session = session_left(abandoned, before);
     let outcome = abandoned.outcome;
-    outcome_answer(outcome)
+    ending_answer(outcome)
 }
 
 // The block that a signer signs of an image.

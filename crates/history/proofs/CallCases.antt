@@ -15,20 +15,36 @@ use Rattle.layout.specs.declared.Refusal.the-variants.{NoPartition, OutOfRange,
 use Rattle.layout.specs.Headers.{headerBytes}
 use Rattle.layout.specs.Opening.{opened}
 use Rattle.ivfc.specs.declared.View.{View}
-use Rattle.update.specs.Staged.{writtenTo}
+use Rattle.update.specs.Staged.{writtenTo, holdsZero}
 use Rattle.views.specs.Places.{partitions, partitionOf, viewIn, stagedView}
 use Rattle.layout.specs.declared.Outcome.{Outcome}
 use Rattle.layout.specs.declared.Outcome.the-variants as outcome
+use Rattle.steps.specs.declared.Verdict.{Verdict}
+use Rattle.steps.specs.declared.Verdict.the-variants as verdict
+use Rattle.steps.specs.declared.Count.{Count}
+use Rattle.steps.specs.declared.Count.the-variants as count
+use Rattle.faults.specs.declared.Fault.{Fault}
+use Rattle.faults.specs.Faults.{faults, countFaults, rowAfter}
+use Rattle.steps.specs.declared.Ending.{Ending}
+use Rattle.steps.specs.declared.Ending.the-variants as ending
 use Rattle.steps.specs.declared.Session.{Session}
 use Rattle.steps.specs.Reading.{refuseOutside}
 use Rattle.steps.specs.Sessions.{idle, begunImage, current, writeOutcome}
 use Rattle.signing.specs.declared.Signer.{Signer}
-use Rattle.signing.specs.Calls.{Answer, Signs, signed}
+use Rattle.signing.specs.declared.Built.{Built}
+use Rattle.signing.specs.declared.Built.the-variants as built
+use Rattle.signing.specs.Calls.{Answer, Signs, signed, builtAs, outcomeOf, blockLeft}
 use Rattle.signing.specs.Calls as signing
 use Rattle.commits.specs.Committing.{committedImage, committedSigned}
-use Rattle.steps.specs.Calls.{After, unchanged, done, leaving, begin, beginIn, inSession, writeTo, writeOn, write, commitOn, commit, commitBy, commitSigned, abandon, Abandoned}
-use Rattle.history.specs.Model.{Form, Plain, Signed, Call, Ask, Begin, Write, Commit, Abandon, Ruling, Accepted, Refused, rulingOf}
-use Rattle.history.specs.Run.{State, committedAs, perform, ruled, next}
+use Rattle.steps.specs.Calls.{After, unchanged, done, finished, leaving, readCommitted, readStaged, isVerified, countVerified, begin, beginIn, inSession, writeTo, writeOn, write, commitOn, commit, commitBy, commitSigned, abandon, Abandoned}
+use Rattle.history.specs.Model.{Form, Plain, Signed, Query, Open, ReadCommitted, ReadStaged, IsVerified, CountVerified, ListFaults, SigningBlock, SigningDigest, Call, Ask, Begin, Write, Commit, Abandon, Opening, Judging, Counting, Listing, Building, Ruling, Accepted, Refused, Dropped, rulingOf, endingOf, ruling}
+use Rattle.history.specs.Run.{State, openedAs, committedAs, reply, perform, ruled, next}
+
+pub not-dropped : {B : Type 0} {r : Ruling} → r ≡ Dropped → r ≡ Refused → B
+not-dropped a r = let z : _≡_ {A = ℕ} 0 1 = cc in absurd (omega arith)
+
+pub not-taken : {B : Type 0} {r : Ruling} → r ≡ Dropped → r ≡ Accepted → B
+not-taken a r = let z : _≡_ {A = ℕ} 0 1 = cc in absurd (omega arith)
 
 pub not-both : {B : Type 0} {r : Ruling} → r ≡ Accepted → r ≡ Refused → B
 not-both a r = let z : _≡_ {A = ℕ} 0 1 = cc in absurd (omega arith)
@@ -54,7 +70,7 @@ abbrev left : After → State
 left a = record { image = a .image; session = a .session }
 
 abbrev Kept : State → After → Type 0
-Kept st a = rulingOf (a .outcome) ≡ Refused → left a ≡ st
+Kept st a = endingOf (a .outcome) ≡ Refused → left a ≡ st
 
 kept-cond : (t : Bool) (st : State) (a b : After) → Kept st a → Kept st b → Kept st (cond t a b)
 kept-cond true st a b p q = p
@@ -63,9 +79,15 @@ kept-cond false st a b p q = q
 kept-done : (st : State) (image : List ℕ) (session : Session) → Kept st (done image session)
 kept-done st image session e = not-both refl e
 
-kept-leaving : (st : State) (o : Outcome) (image : List ℕ) → Kept st (leaving o (st .image) image (st .session))
-kept-leaving st outcome.Accepted image e = not-both refl e
-kept-leaving st (outcome.Refused r) image e = refl
+-- a write that is finished was not refused
+kept-finished : (st : State) (view : View) (place : ℕ) (bytes : List ℕ) (session : Session) (after : List ℕ) → Kept st (finished view place bytes session after)
+unfolding finished
+kept-finished st view place bytes session after =
+    kept-cond (holdsZero view place bytes after) st _ _ (λ e. not-dropped refl e) (kept-done st after session)
+
+kept-leaving : (st : State) (o : Outcome) (next : After) → Kept st next → Kept st (leaving o (st .image) (st .session) next)
+kept-leaving st outcome.Accepted next k = k
+kept-leaving st (outcome.Refused r) next k = λ e. refl
 
 kept-begin : (st : State) (o : Opened) → Kept st (beginIn (st .image) (st .session) o)
 kept-begin st (opening.Refused r) = λ e. refl
@@ -83,7 +105,7 @@ kept-write : (st : State) (q place : ℕ) (bytes : List ℕ) (c : Container) →
 kept-write st q place bytes c =
     kept-cond (ltb q (partitions c)) st _ _
     (kept-cond (stagedView c q .external) st _ _ (λ e. refl)
-    (kept-leaving st (writeOutcome (stagedView c q) (st .image) place (length bytes)) _))
+    (kept-leaving st (writeOutcome (stagedView c q) (st .image) place (length bytes)) _ (kept-finished st (stagedView c q) place bytes (st .session) _)))
     (λ e. refl)
 
 -- what a commit of either form does once its session may go on
@@ -114,10 +136,93 @@ refused (Commit form) st e =
     subst (Kept st) (sym (commit-is form st)) (kept-session st (commitNext form st) (kept-commit form st) (opened (st .image))) e
 refused Abandon st e = by (st .session .begun) e
   where
-    by : (t : Bool) → rulingOf ((cond {A = Abandoned} t (record { outcome = outcome.Accepted; session = idle }) (record { outcome = outcome.Refused SessionState; session = st .session })) .outcome) ≡ Refused
-        → record { image = st .image; session = (cond {A = Abandoned} t (record { outcome = outcome.Accepted; session = idle }) (record { outcome = outcome.Refused SessionState; session = st .session })) .session } ≡ st
+    by : (t : Bool) → endingOf ((cond {A = Abandoned} t (record { outcome = ending.Accepted; session = idle }) (record { outcome = ending.Refused SessionState; session = st .session })) .outcome) ≡ Refused
+        → record { image = st .image; session = (cond {A = Abandoned} t (record { outcome = ending.Accepted; session = idle }) (record { outcome = ending.Refused SessionState; session = st .session })) .session } ≡ st
     by true e = not-both refl e
     by false e = refl
+
+-- ---- only a write is dropped
+
+abbrev Lasts : After → Type 0
+Lasts a = endingOf (a .outcome) ≡ Dropped → ⊥
+
+lasts-cond : (t : Bool) (a b : After) → Lasts a → Lasts b → Lasts (cond t a b)
+lasts-cond true a b p q = p
+lasts-cond false a b p q = q
+
+lasts-begin : (image : List ℕ) (session : Session) (o : Opened) → Lasts (beginIn image session o)
+lasts-begin image session (opening.Refused r) = λ e. not-dropped e refl
+lasts-begin image session (opening.Valid c) = lasts-cond (session .begun) _ _ (λ e. not-dropped e refl) (λ e. not-taken e refl)
+
+lasts-session : (image : List ℕ) (session : Session) (next : Container → After) → ((c : Container) → Lasts (next c)) → (o : Opened) → Lasts (inSession image session next o)
+lasts-session image session next l (opening.Refused r) = λ e. not-dropped e refl
+lasts-session image session next l (opening.Valid c) =
+    lasts-cond (session .begun) _ _ (lasts-cond (current c image session) _ _ (l c) (λ e. not-dropped e refl)) (λ e. not-dropped e refl)
+
+lasts-commit : (form : Form) (st : State) (c : Container) → Lasts (commitNext form st c)
+lasts-commit Plain st c = λ e. not-taken e refl
+lasts-commit (Signed key signer) st c = by (signed (st .image) signer)
+  where
+    by : (a : Answer) → Lasts (commitBy (st .image) (st .session) key signer a c)
+    by (Signs block) = λ e. not-taken e refl
+    by (signing.Refused r) = λ e. not-dropped e refl
+
+lasts-abandon : (session : Session) (t : Bool)
+    → endingOf ((cond {A = Abandoned} t (record { outcome = ending.Accepted; session = idle }) (record { outcome = ending.Refused SessionState; session = session })) .outcome) ≡ Dropped → ⊥
+lasts-abandon session true e = not-taken e refl
+lasts-abandon session false e = not-dropped e refl
+
+lasts-opening : (o : Opened) → ruling (Opening o) ≡ Dropped → ⊥
+lasts-opening (opening.Valid c) e = not-taken e refl
+lasts-opening (opening.Refused r) e = not-dropped e refl
+
+lasts-outcome : (o : Outcome) → rulingOf o ≡ Dropped → ⊥
+lasts-outcome outcome.Accepted e = not-taken e refl
+lasts-outcome (outcome.Refused r) e = not-dropped e refl
+
+lasts-verdict : (v : Verdict) → ruling (Judging v) ≡ Dropped → ⊥
+lasts-verdict verdict.Yes e = not-taken e refl
+lasts-verdict verdict.No e = not-taken e refl
+lasts-verdict (verdict.Refused r) e = not-dropped e refl
+
+lasts-count : (n : Count) → ruling (Counting n) ≡ Dropped → ⊥
+lasts-count (count.Blocks n) e = not-taken e refl
+lasts-count (count.Refused r) e = not-dropped e refl
+
+lasts-listing : (n : Count) (row : List Fault) → ruling (Listing n row) ≡ Dropped → ⊥
+lasts-listing (count.Blocks n) row e = not-taken e refl
+lasts-listing (count.Refused r) row e = not-dropped e refl
+
+lasts-built : (b : Built) (buffer : List ℕ) → ruling (Building b buffer) ≡ Dropped → ⊥
+lasts-built (built.Bytes n) buffer e = not-taken e refl
+lasts-built (built.Refused r) buffer e = not-dropped e refl
+
+lasts-query : (query : Query) (st : State) → ruling (reply query st) ≡ Dropped → ⊥
+unfolding reply
+lasts-query (Open form) st = lasts-opening (openedAs form (st .image))
+lasts-query (ReadCommitted q place buffer) st = lasts-outcome (readCommitted (st .image) q place buffer .outcome)
+lasts-query (ReadStaged q place buffer) st = lasts-outcome (readStaged (st .image) (st .session) q place buffer .outcome)
+lasts-query (IsVerified q b) st = lasts-verdict (isVerified (st .image) q b)
+lasts-query (CountVerified q) st = lasts-count (countVerified (st .image) q)
+lasts-query (ListFaults row) st = lasts-listing (countFaults (st .image)) (rowAfter (faults (st .image)) row)
+lasts-query (SigningBlock signer buffer) st = lasts-built (builtAs (signed (st .image) signer)) (blockLeft (signed (st .image) signer) buffer)
+lasts-query (SigningDigest signer buffer) st = lasts-outcome (outcomeOf (signed (st .image) signer))
+
+abbrev pub isWrite : Call → Bool
+isWrite (Ask query) = false
+isWrite Begin = false
+isWrite (Write q place bytes) = true
+isWrite (Commit form) = false
+isWrite Abandon = false
+
+pub lasts : (c : Call) (st : State) → isWrite c ≡ false → ruled c st ≡ Dropped → ⊥
+unfolding perform begin abandon
+lasts (Ask query) st n = lasts-query query st
+lasts Begin st n = lasts-begin (st .image) (st .session) (opened (st .image))
+lasts (Write q place bytes) st n = absurd (true≢false n)
+lasts (Commit form) st n =
+    subst Lasts (sym (commit-is form st)) (lasts-session (st .image) (st .session) (commitNext form st) (lasts-commit form st) (opened (st .image)))
+lasts Abandon st n = lasts-abandon (st .session) (st .session .begun)
 
 -- ---- an idle session refuses the calls that need a begun one
 
@@ -129,7 +234,7 @@ needsBegun (Commit form) = true
 needsBegun Abandon = true
 
 idle-session : (image : List ℕ) (session : Session) (next : Container → After) → session .begun ≡ false → (o : Opened)
-    → rulingOf (inSession image session next o .outcome) ≡ Refused
+    → endingOf (inSession image session next o .outcome) ≡ Refused
 idle-session image session next i (opening.Refused r) = refl
 idle-session image session next i (opening.Valid c) = rw i
 
@@ -139,25 +244,39 @@ idles (Ask query) st n i = absurd (true≢false (sym n))
 idles Begin st n i = absurd (true≢false (sym n))
 idles (Write q place bytes) st n i = idle-session (st .image) (st .session) (writeOn (st .image) (st .session) q place bytes) i (opened (st .image))
 idles (Commit form) st n i =
-    ap (λ (a : After). rulingOf (a .outcome)) (commit-is form st) ∙ idle-session (st .image) (st .session) (commitNext form st) i (opened (st .image))
+    ap (λ (a : After). endingOf (a .outcome)) (commit-is form st) ∙ idle-session (st .image) (st .session) (commitNext form st) i (opened (st .image))
 idles Abandon st n i = rw i
 
--- ---- what an accepted call was
+-- ---- what a call was that was not refused
 
-took : (t : Bool) (a b : After) → rulingOf (b .outcome) ≡ Refused → rulingOf (cond t a b .outcome) ≡ Accepted
-    → (t ≡ true) × (cond t a b ≡ a) × (rulingOf (a .outcome) ≡ Accepted)
-took true a b r e = (refl, refl, e)
-took false a b r e = not-both e r
+-- by a test on the way of a call that was not refused
+went : (t : Bool) (a b : After) → endingOf (b .outcome) ≡ Refused → (endingOf (cond t a b .outcome) ≡ Refused → ⊥)
+    → (t ≡ true) × (cond t a b ≡ a) × (endingOf (a .outcome) ≡ Refused → ⊥)
+went true a b r e = (refl, refl, e)
+went false a b r e = absurd (e r)
 
-took-not : (t : Bool) (a b : After) → rulingOf (a .outcome) ≡ Refused → rulingOf (cond t a b .outcome) ≡ Accepted
-    → (t ≡ false) × (cond t a b ≡ b) × (rulingOf (b .outcome) ≡ Accepted)
-took-not true a b r e = not-both e r
-took-not false a b r e = (refl, refl, e)
+went-not : (t : Bool) (a b : After) → endingOf (a .outcome) ≡ Refused → (endingOf (cond t a b .outcome) ≡ Refused → ⊥)
+    → (t ≡ false) × (cond t a b ≡ b) × (endingOf (b .outcome) ≡ Refused → ⊥)
+went-not true a b r e = absurd (e r)
+went-not false a b r e = (refl, refl, e)
 
-took-leaving : (o : Outcome) (image after : List ℕ) (session : Session) → rulingOf (leaving o image after session .outcome) ≡ Accepted
-    → (o ≡ outcome.Accepted) × (leaving o image after session ≡ done after session)
-took-leaving outcome.Accepted image after session e = (refl, refl)
-took-leaving (outcome.Refused r) image after session e = not-both e refl
+took-leaving : (o : Outcome) (image : List ℕ) (session : Session) (next : After) → (endingOf (leaving o image session next .outcome) ≡ Refused → ⊥)
+    → (o ≡ outcome.Accepted) × (leaving o image session next ≡ next)
+took-leaving outcome.Accepted image session next e = (refl, refl)
+took-leaving (outcome.Refused r) image session next e = absurd (e refl)
+
+-- a finished write, accepted or dropped
+took-zero : (t : Bool) (after : List ℕ) (session : Session)
+    → endingOf (cond {A = After} t (record { outcome = ending.Dropped; image = after; session = idle }) (done after session) .outcome) ≡ Accepted
+    → (t ≡ false) × (cond {A = After} t (record { outcome = ending.Dropped; image = after; session = idle }) (done after session) ≡ done after session)
+took-zero true after session e = not-taken refl e
+took-zero false after session e = (refl, refl)
+
+drop-zero : (t : Bool) (after : List ℕ) (session : Session)
+    → endingOf (cond {A = After} t (record { outcome = ending.Dropped; image = after; session = idle }) (done after session) .outcome) ≡ Dropped
+    → (t ≡ true) × (cond {A = After} t (record { outcome = ending.Dropped; image = after; session = idle }) (done after session) ≡ record { outcome = ending.Dropped; image = after; session = idle })
+drop-zero true after session e = (refl, refl)
+drop-zero false after session e = not-taken e refl
 
 -- of an image that opens as c
 module _ (image : List ℕ) (session : Session) (c : Container) (o : opened image ≡ opening.Valid c) where
@@ -165,55 +284,89 @@ module _ (image : List ℕ) (session : Session) (c : Container) (o : opened imag
     pub idle : session .begun ≡ false
     pub after : begin image session ≡ done (begunImage c image) (record { begun = true; header = headerBytes image })
 
-  pub begun-by : rulingOf (begin image session .outcome) ≡ Accepted → Begun
+  pub begun-by : endingOf (begin image session .outcome) ≡ Accepted → Begun
   unfolding begin
   begun-by e =
-      let t = took-not (session .begun) (unchanged image session SessionState)
+      let t = went-not (session .begun) (unchanged image session SessionState)
       (done (begunImage c image) (record { begun = true; header = headerBytes image })) refl
-      (subst (λ (x : Opened). rulingOf (beginIn image session x .outcome) ≡ Accepted) o e) in
+      (λ r. not-both (subst (λ (x : Opened). endingOf (beginIn image session x .outcome) ≡ Accepted) o e) r) in
       record { idle = t .0; after = ap (beginIn image session) o ∙ t .1 }
 
-  -- a call of a begun session that is accepted passed 13 and 14
+  -- one of a begun session passed 13 and 14
   pub record Reached (next : Container → After) : Type 0 where
     pub begun : session .begun ≡ true
     pub current : current c image session ≡ true
     pub after : inSession image session next (opened image) ≡ next c
-    pub accepted : rulingOf (next c .outcome) ≡ Accepted
+    pub unrefused : endingOf (next c .outcome) ≡ Refused → ⊥
 
-  pub reached-by : (next : Container → After) → rulingOf (inSession image session next (opened image) .outcome) ≡ Accepted → Reached next
+  pub reached-by : (next : Container → After) → (endingOf (inSession image session next (opened image) .outcome) ≡ Refused → ⊥) → Reached next
   reached-by next e =
       let d = cond (current c image session) (next c) (unchanged image session Stale) in
-      let t1 = took (session .begun) d (unchanged image session SessionState) refl
-      (subst (λ (x : Opened). rulingOf (inSession image session next x .outcome) ≡ Accepted) o e) in
-      let t2 = took (current c image session) (next c) (unchanged image session Stale) refl (t1 .2) in
-      record { begun = t1 .0; current = t2 .0; after = ap (inSession image session next) o ∙ t1 .1 ∙ t2 .1; accepted = t2 .2 }
+      let t1 = went (session .begun) d (unchanged image session SessionState) refl
+      (subst (λ (x : Opened). endingOf (inSession image session next x .outcome) ≡ Refused → ⊥) o e) in
+      let t2 = went (current c image session) (next c) (unchanged image session Stale) refl (t1 .2) in
+      record { begun = t1 .0; current = t2 .0; after = ap (inSession image session next) o ∙ t1 .1 ∙ t2 .1; unrefused = t2 .2 }
 
-  pub record Written (q place : ℕ) (bytes : List ℕ) : Type 0 where
+  -- and is accepted if what it came to is
+  pub taken : (next : Container → After) → Reached next → endingOf (inSession image session next (opened image) .outcome) ≡ Accepted → endingOf (next c .outcome) ≡ Accepted
+  taken next r e = subst (λ (a : After). endingOf (a .outcome) ≡ Accepted) (r .after) e
+
+  -- a write that was not refused was finished
+  pub record Finished (q place : ℕ) (bytes : List ℕ) : Type 0 where
     pub begun : session .begun ≡ true
     pub current : current c image session ≡ true
     pub there : q < partitions c
     pub internal : partitionOf c q .difi .external ≡ false
     pub allowed : writeOutcome (stagedView c q) image place (length bytes) ≡ outcome.Accepted
-    pub after : write image session q place bytes ≡ done (writtenTo (stagedView c q) place bytes image) session
+    pub made : write image session q place bytes ≡ finished (stagedView c q) place bytes session (writtenTo (stagedView c q) place bytes image)
 
-  pub written-by : (q place : ℕ) (bytes : List ℕ) → rulingOf (write image session q place bytes .outcome) ≡ Accepted → Written q place bytes
+  pub finished-by : (q place : ℕ) (bytes : List ℕ) → (endingOf (write image session q place bytes .outcome) ≡ Refused → ⊥) → Finished q place bytes
   unfolding write stagedView viewIn
-  written-by q place bytes e =
+  finished-by q place bytes e =
       let v = stagedView c q in
       let r = reached-by (writeOn image session q place bytes) e in
-      let d = leaving (writeOutcome v image place (length bytes)) image (writtenTo v place bytes image) session in
+      let f = finished v place bytes session (writtenTo v place bytes image) in
+      let d = leaving (writeOutcome v image place (length bytes)) image session f in
       let d4 = cond (v .external) (unchanged image session ExternalLevel) d in
-      let t3 = took (ltb q (partitions c)) d4 (unchanged image session NoPartition) refl (r .accepted) in
-      let t4 = took-not (v .external) (unchanged image session ExternalLevel) d refl (t3 .2) in
-      let t5 = took-leaving (writeOutcome v image place (length bytes)) image (writtenTo v place bytes image) session (t4 .2) in
+      let t3 = went (ltb q (partitions c)) d4 (unchanged image session NoPartition) refl (r .unrefused) in
+      let t4 = went-not (v .external) (unchanged image session ExternalLevel) d refl (t3 .2) in
+      let t5 = took-leaving (writeOutcome v image place (length bytes)) image session f (t4 .2) in
       record {
         begun = r .begun;
         current = r .current;
         there = ltb-true q (partitions c) (t3 .0);
         internal = t4 .0;
         allowed = t5 .0;
-        after = r .after ∙ t3 .1 ∙ t4 .1 ∙ t5 .1;
+        made = r .after ∙ t3 .1 ∙ t4 .1 ∙ t5 .1;
       }
+
+  -- accepted, it holds no digest that is all zero
+  pub record Written (q place : ℕ) (bytes : List ℕ) : Type 0 where
+    pub finish : Finished q place bytes
+    pub sound : holdsZero (stagedView c q) place bytes (writtenTo (stagedView c q) place bytes image) ≡ false
+    pub after : write image session q place bytes ≡ done (writtenTo (stagedView c q) place bytes image) session
+
+  pub written-by : (q place : ℕ) (bytes : List ℕ) → endingOf (write image session q place bytes .outcome) ≡ Accepted → Written q place bytes
+  unfolding finished
+  written-by q place bytes e =
+      let f = finished-by q place bytes (λ r. not-both e r) in
+      let t = took-zero (holdsZero (stagedView c q) place bytes (writtenTo (stagedView c q) place bytes image)) _ session
+      (subst (λ (a : After). endingOf (a .outcome) ≡ Accepted) (f .made) e) in
+      record { finish = f; sound = t .0; after = f .made ∙ t .1 }
+
+  -- dropped, it holds one, and leaves an idle session
+  pub record Ended (q place : ℕ) (bytes : List ℕ) : Type 0 where
+    pub finish : Finished q place bytes
+    pub zero : holdsZero (stagedView c q) place bytes (writtenTo (stagedView c q) place bytes image) ≡ true
+    pub after : write image session q place bytes ≡ record { outcome = ending.Dropped; image = writtenTo (stagedView c q) place bytes image; session = idle }
+
+  pub ended-by : (q place : ℕ) (bytes : List ℕ) → endingOf (write image session q place bytes .outcome) ≡ Dropped → Ended q place bytes
+  unfolding finished
+  ended-by q place bytes e =
+      let f = finished-by q place bytes (λ r. not-dropped e r) in
+      let t = drop-zero (holdsZero (stagedView c q) place bytes (writtenTo (stagedView c q) place bytes image)) _ session
+      (subst (λ (a : After). endingOf (a .outcome) ≡ Dropped) (f .made) e) in
+      record { finish = f; zero = t .0; after = f .made ∙ t .1 }
 
 -- the image that a commit of either form leaves
 abbrev pub landedImage : Form → Container → List ℕ → List ℕ
@@ -227,7 +380,7 @@ pub record Committed (form : Form) (st : State) (c : Container) : Type 0 where
 
 -- a signed commit that is accepted has its block
 took-signed : (image : List ℕ) (session : Session) (key : List ℕ) (signer : Signer) (c : Container) (a : Answer)
-    → rulingOf (commitBy image session key signer a c .outcome) ≡ Accepted
+    → endingOf (commitBy image session key signer a c .outcome) ≡ Accepted
     → commitBy image session key signer a c ≡ done (committedSigned c image key signer) idle
 took-signed image session key signer c (Signs block) e = refl
 took-signed image session key signer c (signing.Refused r) e = not-both e refl
@@ -235,10 +388,11 @@ took-signed image session key signer c (signing.Refused r) e = not-both e refl
 pub committed-by : (form : Form) (st : State) (c : Container) → opened (st .image) ≡ opening.Valid c → ruled (Commit form) st ≡ Accepted → Committed form st c
 unfolding perform
 committed-by form st c o e =
-    let r = reached-by (st .image) (st .session) c o (commitNext form st) (sym (ap (λ (a : After). rulingOf (a .outcome)) (commit-is form st)) ∙ e) in
-    record { begun = r .begun; current = r .current; after = commit-is form st ∙ r .after ∙ lands form (r .accepted) }
+    let a = sym (ap (λ (a : After). endingOf (a .outcome)) (commit-is form st)) ∙ e in
+    let r = reached-by (st .image) (st .session) c o (commitNext form st) (λ n. not-both a n) in
+    record { begun = r .begun; current = r .current; after = commit-is form st ∙ r .after ∙ lands form (taken (st .image) (st .session) c o (commitNext form st) r a) }
   where
-    lands : (f : Form) → rulingOf (commitNext f st c .outcome) ≡ Accepted → commitNext f st c ≡ done (landedImage f c (st .image)) idle
+    lands : (f : Form) → endingOf (commitNext f st c .outcome) ≡ Accepted → commitNext f st c ≡ done (landedImage f c (st .image)) idle
     lands Plain a = refl
     lands (Signed key signer) a = took-signed (st .image) (st .session) key signer c (signed (st .image) signer) a
 
@@ -246,11 +400,11 @@ pub signed-first : (key : List ℕ) (signer : Signer) (st : State) (c : Containe
     → ruled (Commit (Signed key signer)) st ≡ Accepted → (block : List ℕ) × (signed (st .image) signer ≡ Signs block)
 unfolding perform
 signed-first key signer st c o e =
-    let r = reached-by (st .image) (st .session) c o (commitNext (Signed key signer) st)
-    (sym (ap (λ (a : After). rulingOf (a .outcome)) (commit-is (Signed key signer) st)) ∙ e) in
-    by (signed (st .image) signer) refl (r .accepted)
+    let a = sym (ap (λ (a : After). endingOf (a .outcome)) (commit-is (Signed key signer) st)) ∙ e in
+    let r = reached-by (st .image) (st .session) c o (commitNext (Signed key signer) st) (λ n. not-both a n) in
+    by (signed (st .image) signer) refl (taken (st .image) (st .session) c o (commitNext (Signed key signer) st) r a)
   where
-    by : (a : Answer) → signed (st .image) signer ≡ a → rulingOf (commitBy (st .image) (st .session) key signer a c .outcome) ≡ Accepted
+    by : (a : Answer) → signed (st .image) signer ≡ a → endingOf (commitBy (st .image) (st .session) key signer a c .outcome) ≡ Accepted
         → (block : List ℕ) × (signed (st .image) signer ≡ Signs block)
     by (Signs block) k e = (block, k)
     by (signing.Refused r) k e = not-both e refl
@@ -274,13 +428,13 @@ unopened (Commit form) st h =
     ap (λ (a : After). a .image) (commit-is form st) ∙ unopened-session (st .image) (st .session) (commitNext form st) (opened (st .image)) refl h
 unopened Abandon st h = refl
 
-pub abandoned-by : (session : Session) → rulingOf (abandon session .outcome) ≡ Accepted → (session .begun ≡ true) × (abandon session .session ≡ idle)
+pub abandoned-by : (session : Session) → endingOf (abandon session .outcome) ≡ Accepted → (session .begun ≡ true) × (abandon session .session ≡ idle)
 unfolding abandon
 abandoned-by session e = by (session .begun) refl e
   where
     by : (t : Bool) → session .begun ≡ t
-        → rulingOf ((cond {A = Abandoned} t (record { outcome = outcome.Accepted; session = idle }) (record { outcome = outcome.Refused SessionState; session = session })) .outcome) ≡ Accepted
-        → (session .begun ≡ true) × ((cond {A = Abandoned} t (record { outcome = outcome.Accepted; session = idle }) (record { outcome = outcome.Refused SessionState; session = session })) .session ≡ idle)
+        → endingOf ((cond {A = Abandoned} t (record { outcome = ending.Accepted; session = idle }) (record { outcome = ending.Refused SessionState; session = session })) .outcome) ≡ Accepted
+        → (session .begun ≡ true) × ((cond {A = Abandoned} t (record { outcome = ending.Accepted; session = idle }) (record { outcome = ending.Refused SessionState; session = session })) .session ≡ idle)
     by true b e = (b, refl)
     by false b e = not-both e refl
 
@@ -292,9 +446,9 @@ idle-rests = refl
 -- an accepted commit is one of an image that opens, and leaves an idle session
 pub opens-first : (form : Form) (st : State) → ruled (Commit form) st ≡ Accepted → (c : Container) × (opened (st .image) ≡ opening.Valid c)
 unfolding perform
-opens-first form st e = by (opened (st .image)) refl (sym (ap (λ (a : After). rulingOf (a .outcome)) (commit-is form st)) ∙ e)
+opens-first form st e = by (opened (st .image)) refl (sym (ap (λ (a : After). endingOf (a .outcome)) (commit-is form st)) ∙ e)
   where
-    by : (o : Opened) → opened (st .image) ≡ o → rulingOf (inSession (st .image) (st .session) (commitNext form st) o .outcome) ≡ Accepted
+    by : (o : Opened) → opened (st .image) ≡ o → endingOf (inSession (st .image) (st .session) (commitNext form st) o .outcome) ≡ Accepted
         → (c : Container) × (opened (st .image) ≡ opening.Valid c)
     by (opening.Valid c) o e = (c, o)
     by (opening.Refused r) o e = not-both e refl

@@ -11,7 +11,7 @@ use Rattle.layout.specs.Opening.{opened}
 use Rattle.number.specs.Ranges.{part}
 use Rattle.signatures.specs.Signatures.{signatureRange}
 use Rattle.dpfs.specs.Free.{Free}
-use Rattle.update.specs.Staged.{writtenTo}
+use Rattle.update.specs.Staged.{writtenTo, holdsZero}
 use Rattle.views.specs.Places.{partitions, partitionOf, committedView, stagedView, spaceOf}
 use Rattle.layout.specs.declared.Outcome.the-variants as outcome
 use Rattle.steps.specs.Sessions.{begunImage, tableStaged, writeOutcome}
@@ -42,7 +42,7 @@ pub record BeginLaws (c : Container) (image : List ℕ) : Type 0 where
 pub record WriteLaws (c : Container) (q place : ℕ) (bytes image after : List ℕ) : Type 0 where
   pub stores : Left c image after
   pub table : tableStaged c image ≡ true → tableStaged c after ≡ true
-  pub version : versionOf (stagedView c q) after ≡ laidOver place bytes (versionOf (stagedView c q) image)
+  pub version : holdsZero (stagedView c q) place bytes after ≡ false → versionOf (stagedView c q) after ≡ laidOver place bytes (versionOf (stagedView c q) image)
   pub others : (p : ℕ) → p < partitions c → (q ≡ p → ⊥) → versionOf (stagedView c p) after ≡ versionOf (stagedView c p) image
 
 -- what a commit of either form leaves: the new header, and past the first 0x200 bytes every byte as it was

@@ -25,11 +25,11 @@ use Rattle.signing.specs.Calls.{Answer, Signs, signed}
 use Rattle.signing.specs.Calls as signing
 use Rattle.number.specs.Ranges.{part}
 use Rattle.signatures.specs.Signatures.{signatureRange, afterSigner, comesFirst, openedSigned}
-use Rattle.history.specs.Model.{Version, versionOf, readOf, judgedOf, countTrue, Form, Plain, Signed, Call, Ask, Begin, Write, Commit, Abandon, Ruling, Accepted, Refused, Did}
+use Rattle.history.specs.Model.{Version, versionOf, readOf, judgedOf, countTrue, Form, Plain, Signed, Call, Ask, Begin, Write, Commit, Abandon, Ruling, Accepted, Refused, Dropped, Did}
 use Rattle.history.specs.Run.{State, openedAs, perform, ruled, next, after, events, commits, commitOf}
 use Rattle.history.specs.Theorem.{SameAnswers, Left}
 use Rattle.history.proofs.VersionLaws.{read-version, judged-version, count-version}
-use Rattle.history.proofs.CallCases.{refused, begun-by, written-by}
+use Rattle.history.proofs.CallCases.{refused, begun-by, written-by, ended-by, isWrite, lasts}
 use Rattle.history.proofs.CallLaws.{CallLaws}
 
 -- what is signed is of an image's length and its header
@@ -62,14 +62,19 @@ module _ (W : CallLaws) where
       by Accepted e =
           subst (λ (a : After). Left c (st .image) (a .image)) (sym (begun-by (st .image) (st .session) c o e .after)) (W .begin (st .image) c o .stores)
       by Refused e = subst (λ (s : State). Left c (st .image) (s .image)) (sym (refused Begin st e)) (keeps-refl _ _)
+      by Dropped e = absurd (lasts Begin st refl e)
   spares (Write q place bytes) st c h o = by (ruled (Write q place bytes) st) refl
     where
       by : (r : Ruling) → ruled (Write q place bytes) st ≡ r → Left c (st .image) (next (Write q place bytes) st .image)
       by Accepted e =
           let b = written-by (st .image) (st .session) c o q place bytes e in
           subst (λ (a : After). Left c (st .image) (a .image)) (sym (b .after))
-          (W .write (st .image) c o q place bytes (b .there) (b .internal) (b .allowed) .stores)
+          (W .write (st .image) c o q place bytes (b .finish .there) (b .finish .internal) (b .finish .allowed) .stores)
       by Refused e = subst (λ (s : State). Left c (st .image) (s .image)) (sym (refused (Write q place bytes) st e)) (keeps-refl _ _)
+      by Dropped e =
+          let b = ended-by (st .image) (st .session) c o q place bytes e in
+          subst (λ (a : After). Left c (st .image) (a .image)) (sym (b .after))
+          (W .write (st .image) c o q place bytes (b .finish .there) (b .finish .internal) (b .finish .allowed) .stores)
   spares (Commit form) st c h o = absurd (h form refl)
   spares Abandon st c h o = keeps-refl _ _
 
@@ -77,6 +82,7 @@ module _ (W : CallLaws) where
   spares-event : (call : Call) (r : Ruling) (st : State) (c : Container) → ruled call st ≡ r → commitOf (Did call r) ≡ 0 → opened (st .image) ≡ opening.Valid c
       → Left c (st .image) (next call st .image)
   spares-event call Refused st c e z o = subst (λ (s : State). Left c (st .image) (s .image)) (sym (refused call st e)) (keeps-refl _ _)
+  spares-event call Dropped st c e z o = spares call st c (λ form q. lasts call st (ap isWrite q) e) o
   spares-event call Accepted st c e z o = spares call st c (λ form q. let y : commitOf (Did (Commit form) Accepted) ≡ 0 = subst (λ (x : Call). commitOf (Did x Accepted) ≡ 0) q z in omega arith) o
 
   -- so no list does before an accepted commit, from whatever session

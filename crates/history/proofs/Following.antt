@@ -11,7 +11,7 @@ use Rattle.number.proofs.Tests.{and-left, and-right, and-both}
 use Rattle.number.proofs.ListLaws.{same-refl}
 use Rattle.layout.specs.declared.Container.{Container}
 use Rattle.layout.specs.Headers.{headerBytes}
-use Rattle.update.specs.Staged.{writtenTo}
+use Rattle.update.specs.Staged.{writtenTo, holdsZero}
 use Rattle.views.specs.Places.{stagedView}
 use Rattle.steps.specs.declared.Count.the-variants as count
 use Rattle.steps.specs.declared.Session.{Session}
@@ -19,12 +19,12 @@ use Rattle.steps.specs.Sessions.{idle, begunImage, current, tableStaged}
 use Rattle.steps.specs.Calls.{After, readCommitted, readStaged, isVerified, countVerified}
 use Rattle.faults.specs.Faults.{kept, faults}
 use Rattle.faults.specs.Laws.{ofLevel}
-use Rattle.history.specs.Model.{Version, versionOf, laidOver, Form, Query, Open, ReadCommitted, ReadStaged, IsVerified, CountVerified, ListFaults, SigningBlock, SigningDigest, Call, Ask, Begin, Write, Commit, Abandon, Answer, Reading, Judging, Counting, Ruling, Accepted, Refused, Model, advance, followed, readOf, readStagedOf, judgedOf, countTrue, says, unverified}
+use Rattle.history.specs.Model.{Version, versionOf, laidOver, Form, Query, Open, ReadCommitted, ReadStaged, IsVerified, CountVerified, ListFaults, SigningBlock, SigningDigest, Call, Ask, Begin, Write, Commit, Abandon, Answer, Reading, Judging, Counting, Ruling, Accepted, Refused, Dropped, Model, advance, followed, readOf, readStagedOf, judgedOf, countTrue, says, unverified}
 use Rattle.history.specs.Run.{State, reply, perform, ruled, next, after, events}
 use Rattle.history.specs.Theorem.{Has, Start, committedIn, stagedIn, Follows, History, Left}
 use Rattle.history.proofs.VersionLaws.{never}
 use Rattle.history.proofs.ReadLaws.{read-committed, read-staged, read-idle, judged, counted, faulty-version}
-use Rattle.history.proofs.CallCases.{landedImage, not-both, refused, idles, begun-by, written-by, committed-by, abandoned-by, idle-rests}
+use Rattle.history.proofs.CallCases.{landedImage, not-both, refused, idles, begun-by, written-by, committed-by, abandoned-by, idle-rests, ended-by, lasts}
 use Rattle.history.proofs.CallLaws.{FrameLaws, WriteLaws, CommitLaws, CallLaws}
 
 -- what is kept from call to call: also whether the session is begun, and that it may go on
@@ -97,10 +97,10 @@ module _ (W : CallLaws) where
     unfolding perform advance
     by-write q place bytes e =
         let b = written-by (st .image) (st .session) c (g .has .opens) q place bytes e in
-        let w = W .write (st .image) c (g .has .opens) q place bytes (b .there) (b .internal) (b .allowed) in
+        let w = W .write (st .image) c (g .has .opens) q place bytes (b .finish .there) (b .finish .internal) (b .finish .allowed) in
         let f = W .frame (st .image) (writtenTo (stagedView c q) place bytes (st .image)) c (g .has .opens) (w .stores) in
         subst (λ (a : After). Agrees p (record { image = a .image; session = a .session }) (advance p (Write q place bytes) Accepted m)) (sym (b .after))
-        (by w f (eqb q p) refl)
+        (by w f (b .sound) (eqb q p) refl)
       where
         image' : List ℕ
         image' = writtenTo (stagedView c q) place bytes (st .image)
@@ -117,21 +117,35 @@ module _ (W : CallLaws) where
         same w f k none t = t
         same w f k (some v) t = (t .0, goes-on c (st .image) image' (st .session) (f .header) (w .table) (t .1), k ∙ t .2)
 
-        by : (w : WriteLaws c q place bytes (st .image) image') → FrameLaws c (st .image) image' → (t : Bool) → eqb q p ≡ t
+        by : (w : WriteLaws c q place bytes (st .image) image') → FrameLaws c (st .image) image' → holdsZero (stagedView c q) place bytes image' ≡ false → (t : Bool) → eqb q p ≡ t
             → Agrees p (record { image = image'; session = st .session })
             (cond t (record { committed = m .committed; staged = Option·map (laidOver place bytes) (m .staged) }) m)
-        by w f true u = record {
+        by w f z true u = record {
           has = has-left (g .has) (w .stores);
           committed = f .version p (g .has .there) ∙ g .committed;
           staged = to w f (laidOver place bytes)
-              (subst (λ (z : ℕ). versionOf (stagedView c z) image' ≡ laidOver place bytes (versionOf (stagedView c z) (st .image))) (eqb-true q p u) (w .version))
+              (subst (λ (z : ℕ). versionOf (stagedView c z) image' ≡ laidOver place bytes (versionOf (stagedView c z) (st .image))) (eqb-true q p u) (w .version z))
               (m .staged) (g .staged);
         }
-        by w f false u = record {
+        by w f z false u = record {
           has = has-left (g .has) (w .stores);
           committed = f .version p (g .has .there) ∙ g .committed;
           staged = same w f (w .others p (g .has .there) (eqb-false q p u)) (m .staged) (g .staged);
         }
+
+    -- a write that is dropped has changed free bytes alone, and its session is idle
+    by-dropped : (call : Call) → ruled call st ≡ Dropped → Agrees p (next call st) (record { committed = m .committed; staged = none })
+    unfolding perform
+    by-dropped (Write q place bytes) e =
+        let b = ended-by (st .image) (st .session) c (g .has .opens) q place bytes e in
+        let w = W .write (st .image) c (g .has .opens) q place bytes (b .finish .there) (b .finish .internal) (b .finish .allowed) in
+        let f = W .frame (st .image) (writtenTo (stagedView c q) place bytes (st .image)) c (g .has .opens) (w .stores) in
+        subst (λ (a : After). Agrees p (record { image = a .image; session = a .session }) (record { committed = m .committed; staged = none })) (sym (b .after))
+        (record { has = has-left (g .has) (w .stores); committed = f .version p (g .has .there) ∙ g .committed; staged = idle-rests })
+    by-dropped (Ask query) e = absurd (lasts (Ask query) st refl e)
+    by-dropped Begin e = absurd (lasts Begin st refl e)
+    by-dropped (Commit form) e = absurd (lasts (Commit form) st refl e)
+    by-dropped Abandon e = absurd (lasts Abandon st refl e)
 
     by-commit : (form : Form) → ruled (Commit form) st ≡ Accepted → Agrees p (next (Commit form) st) (advance p (Commit form) Accepted m)
     unfolding perform advance
@@ -180,6 +194,7 @@ module _ (W : CallLaws) where
         by : (r : Ruling) → ruled call st ≡ r → Agrees p (next call st) (advance p call r m)
         by Accepted e = by-accepted call e
         by Refused e = subst (λ (s : State). Agrees p s m) (sym (refused call st e)) g
+        by Dropped e = by-dropped call e
 
     -- what a read or a question answers
     staged-answer : (place : ℕ) (buffer : List ℕ) (o : Option Version) → Tracks (g .has) (st .session) o

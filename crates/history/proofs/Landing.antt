@@ -22,12 +22,12 @@ use Rattle.ivfc.specs.Views.{contentOf, verified}
 use Rattle.views.specs.Places.{viewIn, committedView, stagedView}
 use Rattle.layout.specs.declared.Outcome.the-variants as outcome
 use Rattle.steps.specs.Calls.{readCommitted}
-use Rattle.history.specs.Model.{Version, versionOf, laidOver, lowest, readOf, Form, Call, Ask, Begin, Write, Commit, Abandon, Ruling, Accepted, Refused, Event, Did, Model, advance, followed}
+use Rattle.history.specs.Model.{Version, versionOf, laidOver, lowest, readOf, Form, Call, Ask, Begin, Write, Commit, Abandon, Ruling, Accepted, Refused, Dropped, Event, Did, Model, advance, followed}
 use Rattle.history.specs.Run.{State, perform, ruled, next, after, events, beginOf, begins, commitOf, commits, Put, putBy, valueAt, later, lastValue}
 use Rattle.history.specs.Theorem.{Has, Start, committedIn, levelIn, byteIn, verifiedIn, Landed}
 use Rattle.history.proofs.VersionLaws.{never, length-flags, getD-flags}
 use Rattle.history.proofs.ReadLaws.{read-committed}
-use Rattle.history.proofs.CallCases.{write-fits, not-both, refused, idles, idle-after, written-by}
+use Rattle.history.proofs.CallCases.{write-fits, not-both, not-dropped, lasts, refused, idles, idle-after, written-by}
 use Rattle.history.proofs.CallLaws.{CallLaws}
 use Rattle.history.proofs.Following.{Tracks, Agrees, step, agrees-on, agrees-first}
 use Rattle.history.proofs.LaidLaws.{putOver, laid, later-some, value-in, laid-bytes, laid-level, laid-written, laid-others}
@@ -45,6 +45,7 @@ abbrev Lawful : (p : ℕ) → List Event → Model → Type 0
 Lawful p [] m = Unit {0}
 Lawful p (Did c Accepted ∷ es) m = Allowed p m c × Lawful p es (advance p c Accepted m)
 Lawful p (Did c Refused ∷ es) m = Lawful p es m
+Lawful p (Did c Dropped ∷ es) m = Lawful p es (record { committed = m .committed; staged = none })
 
 one-level : (c : Container) (p : ℕ) → stagedView c p .level4 ≡ committedView c p .level4
 unfolding stagedView committedView viewIn
@@ -66,7 +67,7 @@ module _ (W : CallLaws) where
       ap (λ (v : Version). v .level) (sym (g .committed)) ∙ version-level (committedView c p) (st .image) ∙ sym (one-level c p) in (
         λ n. not-both e (idles (Write q place bytes) st refl (subst (Tracks (g .has) (st .session)) n (g .staged))),
         λ k. subst (λ (x : Level). place + length bytes ≤ x .size) (sym l)
-            (subst (λ (z : ℕ). place + length bytes ≤ stagedView c z .level4 .size) k (write-fits (stagedView c q) (st .image) place (length bytes) (b .allowed))),
+            (subst (λ (z : ℕ). place + length bytes ≤ stagedView c z .level4 .size) k (write-fits (stagedView c q) (st .image) place (length bytes) (b .finish .allowed))),
       )
   allowed p st m g (Commit form) e = λ n. not-both e (idles (Commit form) st refl (subst (Tracks (g .has) (st .session)) n (g .staged)))
   allowed p st m g Abandon e = tt
@@ -79,6 +80,7 @@ module _ (W : CallLaws) where
       by : (r : Ruling) → ruled c st ≡ r → Lawful p (events calls (next c st)) (advance p c r m) → Lawful p (Did c r ∷ events calls (next c st)) m
       by Accepted e l = (allowed p st m g c e, l)
       by Refused e l = l
+      by Dropped e l = l
 
 -- ---- what a list of one begin comes to, in the model
 
@@ -111,6 +113,7 @@ rest p (Did (Write q place bytes) Accepted ∷ es) v l b = absurd (l .0 .0 refl)
 rest p (Did (Commit form) Accepted ∷ es) v l b = absurd (l .0 refl)
 rest p (Did Abandon Accepted ∷ es) v l b = rests-on p _ es v (rest p es v (l .1) (omega arith)) refl refl refl
 rest p (Did c Refused ∷ es) v l b = rests-on p _ es v (rest p es v l (omega arith)) refl refl refl
+rest p (Did c Dropped ∷ es) v l b = rests-on p _ es v (rest p es v l (omega arith)) refl refl refl
 
 -- a list that commits the version `old` with the accepted writes laid over `v`
 pub record Lands (p : ℕ) (es : List Event) (m : Model) (v : Version) : Type 0 where
@@ -183,6 +186,7 @@ live p (Did (Commit form) Accepted ∷ es) old v l b c =
     let r = rest p es v (l .1) (omega arith) in
     record { version = ap (λ (m : Model). m .committed) (r .model) ∙ sym (r .same v); inside = λ i x e. never (sym (after-commit p i form es (r .values i)) ∙ e) }
 live p (Did Abandon Accepted ∷ es) old v l b c = absurd (let r = rest p es old (l .1) (omega arith) in let n = r .commits in omega arith)
+live p (Did d Dropped ∷ es) old v l b c = absurd (let r = rest p es old l (omega arith) in let n = r .commits in omega arith)
 live p (Did d Refused ∷ es) old v l b c = lands-on p _ es _ _ v (live p es old v l (omega arith) (omega arith)) refl refl refl
 
 -- before the begin
@@ -196,6 +200,7 @@ landing p (Did (Write q place bytes) Accepted ∷ es) v l b c = absurd (l .0 .0 
 landing p (Did (Commit form) Accepted ∷ es) v l b c = absurd (l .0 refl)
 landing p (Did Abandon Accepted ∷ es) v l b c = lands-on p _ es _ _ v (landing p es v (l .1) (omega arith) (omega arith)) refl refl refl
 landing p (Did d Refused ∷ es) v l b c = lands-on p _ es _ _ v (landing p es v l (omega arith) (omega arith)) refl refl refl
+landing p (Did d Dropped ∷ es) v l b c = lands-on p _ es _ _ v (landing p es v l (omega arith) (omega arith)) refl refl refl
 
 -- ---- what that says of the views
 
@@ -310,6 +315,11 @@ stays (Write q place bytes) Accepted st e i b = not-both e (idles (Write q place
 stays (Commit form) Accepted st e i b = not-both e (idles (Commit form) st refl i)
 stays Abandon Accepted st e i b = not-both e (idles Abandon st refl i)
 stays c Refused st e i b = refused c st e
+stays (Ask query) Dropped st e i b = absurd (lasts (Ask query) st refl e)
+stays Begin Dropped st e i b = absurd (lasts Begin st refl e)
+stays (Write q place bytes) Dropped st e i b = not-dropped e (idles (Write q place bytes) st refl i)
+stays (Commit form) Dropped st e i b = absurd (lasts (Commit form) st refl e)
+stays Abandon Dropped st e i b = absurd (lasts Abandon st refl e)
 
 pub stays-on : (calls : List Call) (st : State) → st .session .begun ≡ false → begins (events calls st) ≡ 0 → after calls st ≡ st
 unfolding after events begins

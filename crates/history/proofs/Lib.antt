@@ -18,4 +18,5 @@ pub mod Units
 pub mod Commits
 pub mod Calls
 pub mod Demand
+pub mod ReadBack
 pub mod SmallRun

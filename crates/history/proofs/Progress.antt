@@ -15,20 +15,20 @@ use Rattle.layout.specs.declared.Refusal.the-variants.{SessionState, Stale}
 use Rattle.steps.specs.declared.Session.{Session}
 use Rattle.steps.specs.Sessions.{current}
 use Rattle.steps.specs.Calls.{After, unchanged, begin, beginIn, inSession, commitOn, commit, commitBy, commitSigned, abandon}
-use Rattle.history.specs.Model.{Version, Plain, Signed, Call, Begin, Commit, Abandon, Answer, Stepping, Accepted, rulingOf, Model, followed}
+use Rattle.history.specs.Model.{Version, Plain, Signed, Call, Begin, Commit, Abandon, Answer, Stepping, Accepted, endingOf, Model, followed}
 use Rattle.history.specs.Run.{State, perform, ruled, after, events}
-use Rattle.history.specs.Theorem.{Start, committedIn, ProgressTheorem}
+use Rattle.history.specs.Theorem.{endedBy, Start, committedIn, ProgressTheorem}
 use Rattle.history.proofs.CallLaws.{CallLaws}
 use Rattle.history.proofs.Following.{Tracks, Agrees, agrees-on, agrees-first}
 
 begin-accepted : (st : State) (c : Container) → opened (st .image) ≡ opening.Valid c → st .session .begun ≡ false → ruled Begin st ≡ Accepted
 unfolding perform begin
-begin-accepted st c o i = ap (λ (x : Opened). rulingOf (beginIn (st .image) (st .session) x .outcome)) o ∙ rw i
+begin-accepted st c o i = ap (λ (x : Opened). endingOf (beginIn (st .image) (st .session) x .outcome)) o ∙ rw i
 
 commit-accepted : (st : State) (c : Container) → opened (st .image) ≡ opening.Valid c → st .session .begun ≡ true
     → current c (st .image) (st .session) ≡ true → ruled (Commit Plain) st ≡ Accepted
 unfolding perform commit
-commit-accepted st c o b k = ap (λ (x : Opened). rulingOf (inSession (st .image) (st .session) (commitOn (st .image)) x .outcome)) o ∙ rw (k, b)
+commit-accepted st c o b k = ap (λ (x : Opened). endingOf (inSession (st .image) (st .session) (commitOn (st .image)) x .outcome)) o ∙ rw (k, b)
 
 -- a session that may go on goes on
 goes : (image : List ℕ) (session : Session) (c : Container) (next : Container → After) → session .begun ≡ true → current c image session ≡ true
@@ -39,7 +39,7 @@ goes image session c next b k =
 
 -- once 13 and 14 are passed, 15 alone stops a signed commit
 signed-answer : (st : State) (c : Container) (key : List ℕ) (signer : Signer) → opened (st .image) ≡ opening.Valid c → st .session .begun ≡ true
-    → current c (st .image) (st .session) ≡ true → perform (Commit (Signed key signer)) st .answer ≡ Stepping (outcomeOf (signed (st .image) signer))
+    → current c (st .image) (st .session) ≡ true → perform (Commit (Signed key signer)) st .answer ≡ Stepping (endedBy (outcomeOf (signed (st .image) signer)))
 unfolding perform commitSigned
 signed-answer st c key signer o b k =
     ap (λ (a : After). Stepping (a .outcome))
@@ -49,7 +49,7 @@ signed-answer st c key signer o b k =
     next : Container → After
     next = commitBy (st .image) (st .session) key signer (signed (st .image) signer)
 
-    by : (a : signing.Answer) → Stepping (commitBy (st .image) (st .session) key signer a c .outcome) ≡ Stepping (outcomeOf a)
+    by : (a : signing.Answer) → Stepping (commitBy (st .image) (st .session) key signer a c .outcome) ≡ Stepping (endedBy (outcomeOf a))
     by (Signs block) = refl
     by (signing.Refused r) = refl
 

@@ -34,7 +34,7 @@ use Rattle.history.specs.Model.{Form, Plain, Signed, Call, Commit, Rulin
 use Rattle.history.specs.Model as model
 use Rattle.history.specs.Run.{State, perform, ruled, next}
 use Rattle.history.specs.Theorem.{InUnit, SigningTheorem}
-use Rattle.history.proofs.CallCases.{landedImage, refused, committed-by, opens-first, signed-first}
+use Rattle.history.proofs.CallCases.{landedImage, refused, lasts, committed-by, opens-first, signed-first}
 use Rattle.history.proofs.CallLaws.{Headed, CommitLaws, CallLaws}
 use Rattle.history.proofs.Following.{staged-table}
 use Rattle.history.proofs.Units.{new-size, signed-front}
@@ -60,6 +60,7 @@ unit form st = by (ruled (Commit form) st) refl
     by Accepted e =
         let (c, o) = opens-first form st e in
         subst (λ (a : After). Keeps (InUnit form) (st .image) (a .image)) (sym (committed-by form st c o e .after)) (landed-unit form (st .image) c (guarantees (st .image) c o))
+    by model.Dropped e = absurd (lasts (Commit form) st refl e)
     by model.Refused e = subst (λ (s : State). Keeps (InUnit form) (st .image) (s .image)) (sym (refused (Commit form) st e)) (keeps-refl _ _)
 
 -- ---- after a signed commit

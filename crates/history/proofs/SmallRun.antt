@@ -2,14 +2,18 @@
 use mathlib.Core.Path.{_≡_, refl, sym, ap, _∙_}
 use mathlib.Core.Bool.{Bool, true, false, _||_, cond, or-true}
 use mathlib.Core.List.{List, [], _∷_}
-use Prim.Native.Nat.{ℕ, _<_}
+use Prim.Native.Nat.{ℕ, zero, suc, _+_, _≤_, _<_}
+use native.Mathlib.Omega.{arith}
 use lib.ListN.{length, replicate, getD}
 use lib.Dec.{lit<, leb, ltb}
 use Rattle.number.specs.declared.Level.{Level}
 use Rattle.number.specs.Fields.{le16, le32, le64}
 use Rattle.number.specs.Ranges.{part}
-use Rattle.number.specs.Blocks.{blocks, blockSize, blockOf, lastBlock}
-use Rattle.number.proofs.Tests.{and-right}
+use Rattle.number.specs.Bytes.{bytes}
+use Rattle.number.specs.Blocks.{blocks, blockSize, blockOf, blockLength, lastBlock}
+use Rattle.number.proofs.ListLaws.{bytes-is}
+use Rattle.number.proofs.OverlayLaws.{overlay-in}
+use Rattle.sha256.specs.Sha256.{sha256}
 use Rattle.layout.specs.declared.Container.{Container}
 use Rattle.layout.specs.declared.Opened.{Opened}
 use Rattle.layout.specs.declared.Opened.the-variants as opening
@@ -20,25 +24,30 @@ use Rattle.layout.specs.Descriptors.{difiFields, ivfcFields, partitionFields}
 use Rattle.layout.specs.Opening.{opened}
 use Rattle.layout.proofs.GuaranteeLaws.{guarantees}
 use Rattle.ivfc.specs.declared.View.{View}
-use Rattle.ivfc.specs.Blocks.{parent}
-use Rattle.ivfc.specs.Verified.{firstNot}
-use Rattle.ivfc.specs.Verified as tree
-use Rattle.ivfc.specs.Views.{levelOf, matches, verified}
+use Rattle.ivfc.specs.Blocks.{block, entry, parent}
+use Rattle.ivfc.specs.Verified.{zeroEntry, firstNot}
+use Rattle.ivfc.specs.Views.{levelOf, contentOf, verified}
 use Rattle.update.specs.Covering.{covered}
-use Rattle.views.specs.Places.{partitions, partitionOf, viewIn, committedView, stagedView}
+use Rattle.update.specs.Writing.{zeroAmong, zeroHeld, Held}
+use Rattle.update.specs.Staged.{writtenTo, holdsZero}
+use Rattle.update.specs.Rules.{WriteRules}
+use Rattle.update.proofs.ImageLaws.{write-bytes, write-held}
+use Rattle.views.specs.Places.{partitions, slotOf, partitionOf, masterIn, viewIn, committedView, stagedView, spaceOf}
 use Rattle.layout.specs.declared.Outcome.{Outcome}
 use Rattle.layout.specs.declared.Outcome.the-variants as outcome
 use Rattle.steps.specs.declared.Session.{Session}
 use Rattle.steps.specs.Reading.{touched, refuseLowest, refuseOutside}
-use Rattle.steps.specs.Sessions.{idle, begunImage, current, aboveVerified, endsOutcome, writeOutcome}
-use Rattle.steps.specs.Calls.{After, inSession, writeOn, write}
+use Rattle.steps.specs.Sessions.{idle, begunImage, current, endsOutcome, writeOutcome}
+use Rattle.steps.specs.Calls.{After, finished, inSession, writeOn, write}
 use Rattle.steps.proofs.BeginLaws.{begun-current}
-use Rattle.history.specs.Model.{Plain, Version, versionOf, flags, Call, Begin, Write, Commit, Accepted, rulingOf, Did}
+use Rattle.steps.proofs.WriteLaws.{write-rules}
+use Rattle.history.specs.Model.{Plain, Version, versionOf, flags, Call, Begin, Write, Commit, Accepted, endingOf, Did}
 use Rattle.history.specs.Run.{State, perform, ruled, next, after, events, begins, commits}
 use Rattle.history.specs.Theorem.{Start}
 use Rattle.history.proofs.CallCases.{begun-by, written-by}
 use Rattle.history.proofs.Begins as laws
 use Rattle.history.proofs.Demand.{demand3}
+use Rattle.examples.proofs.SmallDigests.{Chain, small-chain}
 use Rattle.examples.proofs.SmallImage.{table, smallImage, smallContainer, small-opens, small-verified}
 
 -- an idle session on it
@@ -110,7 +119,7 @@ staged-one : blocks (stagedView smallContainer 0 .level4) ≡ 1
 unfolding blocks blockSize
 staged-one = ap blocks staged-level
 
--- the block is verified in the staged view after the begin, and so is the one that holds its entry
+-- the block is verified in the staged view after the begin
 staged-verified : verified (stagedView smallContainer 0) begunSmall 4 0 ≡ true
 staged-verified =
     ap (λ (l : List Bool). getD l 0 false)
@@ -118,12 +127,6 @@ staged-verified =
     ∙ ap (λ (v : Version). v .verified) (laws.begins smallImage smallContainer small-opens .version 0 there)
     ∙ one-block (committedView smallContainer 0) smallImage committed-one)
     ∙ small-verified
-
-above-verified : aboveVerified (stagedView smallContainer 0) begunSmall 0 ≡ true
-unfolding aboveVerified tree.verified
-above-verified =
-    and-right (matches (stagedView smallContainer 0) begunSmall 4 0)
-    (verified (stagedView smallContainer 0) begunSmall 3 (parent (levelOf (stagedView smallContainer 0) 3) 0)) staged-verified
 
 -- where 32 bytes from 0 on touch block 0 alone, a test that holds there refuses nothing
 passes : (P : ℕ → Bool) (refusal : ℕ → Refusal) (view : View) (rest : Outcome) → blockOf (view .level4) 0 ≡ 0 → touched (view .level4) 0 32 ≡ 1 → P 0 ≡ true
@@ -147,7 +150,6 @@ outcome-there : writeOutcome (stagedView smallContainer 0) begunSmall 0 32 ≡ o
 unfolding writeOutcome endsOutcome
 outcome-there =
     inside-there _
-    ∙ passes (aboveVerified (stagedView smallContainer 0) begunSmall) _ (stagedView smallContainer 0) _ first-block touched-one above-verified
     ∙ passes _ _ (stagedView smallContainer 0) _ first-block touched-one
     (ap (λ (t : Bool). covered (stagedView smallContainer 0 .level4) 0 32 0 || t) staged-verified
     ∙ or-true (covered (stagedView smallContainer 0 .level4) 0 32 0))
@@ -155,10 +157,11 @@ outcome-there =
 -- a write that passes each check is accepted
 write-accepted : (st : State) (c : Container) (q place : ℕ) (bytes : List ℕ) → opened (st .image) ≡ opening.Valid c → st .session .begun ≡ true
     → current c (st .image) (st .session) ≡ true → ltb q (partitions c) ≡ true → stagedView c q .external ≡ false
-    → writeOutcome (stagedView c q) (st .image) place (length bytes) ≡ outcome.Accepted → ruled (Write q place bytes) st ≡ Accepted
-unfolding perform write
-write-accepted st c q place bytes o b k t e w =
-    ap (λ (x : Opened). rulingOf (inSession (st .image) (st .session) (writeOn (st .image) (st .session) q place bytes) x .outcome)) o ∙ rw (w, k, b, t, e)
+    → writeOutcome (stagedView c q) (st .image) place (length bytes) ≡ outcome.Accepted
+    → holdsZero (stagedView c q) place bytes (writtenTo (stagedView c q) place bytes (st .image)) ≡ false → ruled (Write q place bytes) st ≡ Accepted
+unfolding perform write finished
+write-accepted st c q place bytes o b k t e w z =
+    ap (λ (x : Opened). endingOf (inSession (st .image) (st .session) (writeOn (st .image) (st .session) q place bytes) x .outcome)) o ∙ rw (z, w, k, b, t, e)
 
 below : ltb 0 (partitions smallContainer) ≡ true
 unfolding smallContainer diffHeader
@@ -168,11 +171,68 @@ internal : stagedView smallContainer 0 .external ≡ false
 unfolding smallContainer stagedView viewIn partitionOf partitionFields difiFields table
 internal = refl
 
+-- ---- none of the digests that it holds is all zero
+
+-- where each level is one block of one entry, the digests are a chain
+module _ (levels : ℕ → Level) (content : ℕ → ℕ → ℕ) (small : (i : ℕ) → i ≤ 4 → (levels i .size ≡ 32) × (levels i .log ≡ 5)) where
+  one-entry : (i : ℕ) → i ≤ 4 → block (levels i) (content i) 0 ≡ bytes (content i) 0 32
+  unfolding block blockLength blockSize bytes
+  one-entry i h =
+      let (s, k) = small i h in
+      rw (s, k)
+
+  parent-none : (i : ℕ) → i ≤ 4 → parent (levels i) 0 ≡ 0
+  unfolding parent blockOf blockSize
+  parent-none i h =
+      let (s, k) = small i h in
+      rw k
+
+  chain-holds : (i : ℕ) → i ≤ 4 → (d : List ℕ) → bytes (content i) 0 32 ≡ d → Held levels content i 0 0 → Chain i d → zeroHeld levels content i 0 0 ≡ false
+  unfolding zeroHeld zeroAmong Held entry
+  chain-holds zero h d e held chain = refl
+  chain-holds (suc i) h d e held chain =
+      let q : bytes (content i) 0 32 ≡ sha256 d = held .0 0 (omega arith) (omega arith) ∙ ap sha256 (one-entry (suc i) h ∙ e) in
+      let n : zeroEntry (bytes (content i) 0 32) ≡ false = ap zeroEntry q ∙ chain .0 in
+      let r : Held levels content i 0 0 = rw (parent-none i (omega arith)) at (held .1) in
+      rw (n, parent-none i (omega arith)) (chain-holds i (omega arith) (sha256 d) q r (chain .1))
+
+small-levels : (i : ℕ) → i ≤ 4 → (levelOf (stagedView smallContainer 0) i .size ≡ 32) × (levelOf (stagedView smallContainer 0) i .log ≡ 5)
+unfolding levelOf smallContainer stagedView viewIn masterIn slotOf partitionOf partitionFields difiFields ivfcFields table part le64 le32 le16
+small-levels zero h = (refl, refl)
+small-levels (suc zero) h = (refl, refl)
+small-levels (suc (suc zero)) h = (refl, refl)
+small-levels (suc (suc (suc zero))) h = (refl, refl)
+small-levels (suc (suc (suc (suc i)))) h = (refl, refl)
+
+abbrev smallAfter : List ℕ
+smallAfter = writtenTo (stagedView smallContainer 0) 0 (replicate 32 7) begunSmall
+
+write-asks : WriteRules (spaceOf smallContainer) (stagedView smallContainer 0) begunSmall 0 (replicate 32 7)
+write-asks = write-rules begunSmall smallContainer (guarantees begunSmall smallContainer begun-opens) 0 there internal 0 (replicate 32 7) outcome-there
+
+written-bytes : bytes (contentOf (stagedView smallContainer 0) smallAfter 4) 0 32 ≡ replicate 32 7
+written-bytes =
+    bytes-is (contentOf (stagedView smallContainer 0) smallAfter 4) 0 32 (replicate 32 7) refl
+    (λ m h. write-bytes (spaceOf smallContainer) (stagedView smallContainer 0) begunSmall 0 (replicate 32 7) write-asks (0 + m)
+    (rw staged-level (omega arith))
+    ∙ overlay-in (contentOf (stagedView smallContainer 0) begunSmall 4) 0 (replicate 32 7) m h)
+
+last-block : lastBlock (stagedView smallContainer 0 .level4) 0 32 ≡ 0
+unfolding lastBlock blockOf blockSize
+last-block = ap (λ (l : Level). lastBlock l 0 32) staged-level
+
+none-zero : holdsZero (stagedView smallContainer 0) 0 (replicate 32 7) (writtenTo (stagedView smallContainer 0) 0 (replicate 32 7) begunSmall) ≡ false
+unfolding holdsZero
+none-zero =
+    rw (first-block, last-block)
+    (chain-holds (levelOf (stagedView smallContainer 0)) (contentOf (stagedView smallContainer 0) smallAfter) small-levels 4 (omega arith) (replicate 32 7) written-bytes
+    (rw (first-block, last-block) at (write-held (spaceOf smallContainer) (stagedView smallContainer 0) begunSmall 0 (replicate 32 7) write-asks (omega arith))) small-chain)
+
 pub write-there : ruled written (next Begin smallState) ≡ Accepted
 write-there =
     ap (ruled written) begun-is
     ∙ write-accepted begunState smallContainer 0 0 (replicate 32 7) begun-opens refl
-    (begun-current smallImage smallContainer (guarantees smallImage smallContainer small-opens)) below internal outcome-there
+    (begun-current smallImage smallContainer (guarantees smallImage smallContainer small-opens)) below internal outcome-there none-zero
 
 -- ---- and a commit
 

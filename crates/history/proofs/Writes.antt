@@ -18,8 +18,6 @@ use Rattle.number.proofs.ListLaws.{length-bytes, getD-bytes, bytes-is}
 use Rattle.number.proofs.OverlayLaws.{within-in}
 use Rattle.number.proofs.BlockLaws.{block-mono, touches-is}
 use Rattle.layout.specs.declared.Container.{Container}
-use Rattle.layout.specs.declared.Refusal.{Refusal}
-use Rattle.layout.specs.declared.Refusal.the-variants.{OutOfRange, UnverifiedAbove}
 use Rattle.layout.specs.declared.Opened.the-variants as opening
 use Rattle.layout.specs.Tables.{inactive}
 use Rattle.layout.specs.Opening.{opened}
@@ -31,16 +29,16 @@ use Rattle.ivfc.specs.Blocks.{parent}
 use Rattle.ivfc.specs.Views.{levelOf, contentOf, verified}
 use Rattle.ivfc.specs.Verified.{firstNot}
 use Rattle.ivfc.proofs.LowestLaws.{first-lowest, lowest-past}
-use Rattle.update.specs.Staged.{writtenTo}
+use Rattle.update.specs.Staged.{writtenTo, holdsZero}
 use Rattle.update.specs.Rules.{StagedRules, WriteRules}
 use Rattle.update.proofs.ImageLaws.{write-free, write-bytes, write-verified, write-other, write-table}
 use Rattle.views.specs.Places.{partitions, slotOf, partitionOf, treeOf, viewIn, masterIn, stagedView, spaceOf}
-use Rattle.steps.proofs.WriteLaws.{staged-write-rules}
+use Rattle.steps.proofs.WriteLaws.{write-rules}
 use Rattle.views.proofs.PlaceLaws.{second-there, third-missing, staged-rules, staged-master, tree-among}
 use Rattle.layout.specs.declared.Outcome.{Outcome}
 use Rattle.layout.specs.declared.Outcome.the-variants as outcome
 use Rattle.steps.specs.Reading.{touched, refuseLowest, refuseOutside}
-use Rattle.steps.specs.Sessions.{stagedTable, inMaster, inSomeMaster, tableStaged, aboveVerified, writeOutcome}
+use Rattle.steps.specs.Sessions.{stagedTable, inMaster, inSomeMaster, tableStaged, writeOutcome}
 use Rattle.history.specs.Model.{flags, versionOf, marked, laidOver}
 use Rattle.history.specs.Theorem.{Left}
 use Rattle.history.proofs.VersionLaws.{flags-cong}
@@ -50,26 +48,6 @@ use Rattle.history.proofs.LaidLaws.{put-bytes}
 use Rattle.history.proofs.Seen.{SameSeen, same-version}
 use Rattle.history.proofs.Frames.{outside-stays, staged-stays}
 use Rattle.history.proofs.Tables.{below-all, place-of, descriptors-apart, trees-apart, staged-byte}
-
--- ---- what the outcome says
-
--- with none refused, P holds at each touched block
-none-lowest : (P : ℕ → Bool) (refusal : ℕ → Refusal) (view : View) (place n : ℕ) (next : Outcome) → refuseLowest P refusal view place n next ≡ outcome.Accepted
-    → (b : ℕ) → touches (view .level4) place n b ≡ true → P b ≡ true
-unfolding refuseLowest touched lastBlock
-none-lowest P refusal view place n next e b t =
-    let l = view .level4 in
-    let (pos, from, to) = touches-is l place n b t in
-    let k : touched l place n ≡ suc (lastBlock l place n) - blockOf l place =
-    ap (λ (x : Bool). cond x 0 (suc (lastBlock l place n) - blockOf l place)) (ne-eqb n 0 (λ q. omega arith)) in
-    let f = unrefused (ltb (firstNot P (blockOf l place) (touched l place n)) (blockOf l place + touched l place n)) next
-    (refusal (firstNot P (blockOf l place) (touched l place n))) e .0 in
-    let u = ltb-false (firstNot P (blockOf l place) (touched l place n)) (blockOf l place + touched l place n) f in
-    let order : blockOf l place ≤ lastBlock l place n = block-mono l place (place + n - 1) (omega arith) in
-    let same : firstNot P (blockOf l place) (touched l place n) ≡ firstNot P (blockOf l place) (suc (lastBlock l place n) - blockOf l place) =
-    ap (firstNot P (blockOf l place)) k in
-    lowest-past P (blockOf l place) (lastBlock l place n) (firstNot P (blockOf l place) (suc (lastBlock l place n) - blockOf l place))
-    (first-lowest P (blockOf l place) (lastBlock l place n) order) (omega arith) b from to
 
 -- ---- the version, byte by byte and block by block
 
@@ -113,26 +91,17 @@ module _ (image : List ℕ) (c : Container) (o : opened image ≡ opening.Valid 
   abbrev after : List ℕ
   after = writtenTo (stagedView c q) place values image
 
-  staged : StagedRules (spaceOf c) (stagedView c q) (length image)
-  unfolding stagedView viewIn
-  staged = staged-write-rules image c g q there internal
-
   write : WriteRules (spaceOf c) (stagedView c q) image place values
-  write = record { rules = staged; fits = write-fits (stagedView c q) image place (length values) ok }
-
-  vouched : (b : ℕ) → touches (stagedView c q .level4) place (length values) b ≡ true → verified (stagedView c q) image 3 (parent (stagedView c q .level3) b) ≡ true
-  unfolding writeOutcome refuseOutside aboveVerified levelOf
-  vouched =
-      none-lowest (aboveVerified (stagedView c q) image) UnverifiedAbove (stagedView c q) place (length values) _
-      (passed (leb (place + length values) (stagedView c q .level4 .size)) _ OutOfRange ok .1)
+  unfolding stagedView viewIn
+  write = write-rules image c g q there internal place values ok
 
   stores : Left c image after
-  stores = write-free (spaceOf c) (stagedView c q) image place values write vouched
+  stores = write-free (spaceOf c) (stagedView c q) image place values write
 
-  version : versionOf (stagedView c q) after ≡ laidOver place values (versionOf (stagedView c q) image)
-  version =
-      version-laid (stagedView c q) image after place values (write-bytes (spaceOf c) (stagedView c q) image place values write vouched)
-      (write-verified (spaceOf c) (stagedView c q) image place values write vouched)
+  version : holdsZero (stagedView c q) place values after ≡ false → versionOf (stagedView c q) after ≡ laidOver place values (versionOf (stagedView c q) image)
+  version z =
+      version-laid (stagedView c q) image after place values (write-bytes (spaceOf c) (stagedView c q) image place values write)
+      (write-verified (spaceOf c) (stagedView c q) image place values write z)
 
   -- ---- the inactive table
 
@@ -159,7 +128,7 @@ module _ (image : List ℕ) (c : Container) (o : opened image ≡ opening.Valid 
       by i h true m = refl
       by i h false m =
           eq-eqb (getD after (inactive (c .header) .offset + i) 0) (getD (stagedTable c after) i 0)
-          (write-table (spaceOf c) (stagedView c q) image place values write vouched (inactive (c .header) .offset + i) (in-table i h)
+          (write-table (spaceOf c) (stagedView c q) image place values write (inactive (c .header) .offset + i) (in-table i h)
           (λ f. true≢false (sym (in-master i f) ∙ m))
           ∙ staged-byte image c g e i h m
           ∙ ap (λ (x : List ℕ). getD x i 0) (sym (staged-stays image after c g stores)))
@@ -193,8 +162,8 @@ module _ (image : List ℕ) (c : Container) (o : opened image ≡ opening.Valid 
       level4 = refl;
       external = refl;
       master = λ y l. let m = staged-master image c g p h in
-          write-table (spaceOf c) (stagedView c q) image place values write vouched _ (in-table y l m) (off-master y l);
-      inner = write-other (spaceOf c) (stagedView c q) image place values write vouched (treeOf c p) (tree-among image c g p h) (trees-apart image c g p q h there other) (not (treeOf c p .live));
+          write-table (spaceOf c) (stagedView c q) image place values write _ (in-table y l m) (off-master y l);
+      inner = write-other (spaceOf c) (stagedView c q) image place values write (treeOf c p) (tree-among image c g p h) (trees-apart image c g p q h there other) (not (treeOf c p .live));
       outer = λ e y l. outside-stays image after c g stores p h e y l;
     }
       where

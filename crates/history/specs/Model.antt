@@ -22,6 +22,8 @@ use Rattle.steps.specs.declared.Verdict.{Verdict}
 use Rattle.steps.specs.declared.Verdict.the-variants as verdict
 use Rattle.steps.specs.declared.Count.{Count}
 use Rattle.steps.specs.declared.Count.the-variants as count
+use Rattle.steps.specs.declared.Ending.{Ending}
+use Rattle.steps.specs.declared.Ending.the-variants as ending
 use Rattle.steps.specs.Reading.{Read, said}
 use Rattle.steps.specs.Calls.{unread}
 use Rattle.faults.specs.declared.Fault.{Fault}
@@ -96,15 +98,20 @@ pub data Answer : Type 0 where
   Listing : Count → (row : List Fault) → Answer
   Building : Built → (buffer : List ℕ) → Answer
   Digesting : Outcome → (buffer : List ℕ) → Answer
-  Stepping : Outcome → Answer
+  Stepping : Ending → Answer
 
--- whether it was accepted
+-- whether it was accepted; a write that ends in 17 is dropped
 pub data Ruling : Type 0 where
-  Accepted Refused : Ruling
+  Accepted Refused Dropped : Ruling
 
 abbrev pub rulingOf : Outcome → Ruling
 rulingOf outcome.Accepted = Accepted
 rulingOf (outcome.Refused r) = Refused
+
+abbrev pub endingOf : Ending → Ruling
+endingOf ending.Accepted = Accepted
+endingOf (ending.Refused r) = Refused
+endingOf ending.Dropped = Dropped
 
 abbrev pub ruling : Answer → Ruling
 ruling (Opening (opening.Valid c)) = Accepted
@@ -120,7 +127,7 @@ ruling (Listing (count.Refused r) row) = Refused
 ruling (Building (built.Bytes n) buffer) = Accepted
 ruling (Building (built.Refused r) buffer) = Refused
 ruling (Digesting outcome buffer) = rulingOf outcome
-ruling (Stepping outcome) = rulingOf outcome
+ruling (Stepping ending) = endingOf ending
 
 -- a call of a list, and whether it was accepted
 pub data Event : Type 0 where
@@ -134,8 +141,8 @@ pub record Model : Type 0 where
   pub staged : Option Version
 
 -- An accepted begin copies committed to staged. An accepted write to this partition, p, lays its bytes over staged, and every block it
--- touches is verified there. An accepted commit makes staged the committed one; it or an accepted abandon ends staged. No other call, and
--- none refused, changes the model.
+-- touches is verified there. An accepted commit makes staged the committed one; it or an accepted abandon ends staged, and a
+-- call that is dropped counts as an abandon. No other call, and none refused, changes the model.
 unfoldable pub advance : (p : ℕ) → Call → Ruling → Model → Model
 advance p Begin Accepted m = record { committed = m .committed; staged = some (m .committed) }
 advance p (Write q place bytes) Accepted m =
@@ -144,6 +151,7 @@ advance p (Commit form) Accepted m = record { committed = Option·getD (m .stage
 advance p Abandon Accepted m = record { committed = m .committed; staged = none }
 advance p (Ask query) Accepted m = m
 advance p c Refused m = m
+advance p c Dropped m = record { committed = m .committed; staged = none }
 
 -- the model after a list
 unfoldable pub followed : (p : ℕ) → List Event → Model → Model

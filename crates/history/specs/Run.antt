@@ -13,7 +13,7 @@ use Rattle.steps.specs.declared.Session.{Session}
 use Rattle.steps.specs.Calls.{After, readCommitted, readStaged, isVerified, countVerified, begin, write, commit, commitSigned, abandon}
 use Rattle.faults.specs.Faults.{countFaults, faults, rowAfter}
 use Rattle.signing.specs.Calls.{signed, builtAs, outcomeOf, blockLeft, digestLeft}
-use Rattle.history.specs.Model.{Form, Plain, Signed, Query, Open, ReadCommitted, ReadStaged, IsVerified, CountVerified, ListFaults, SigningBlock, SigningDigest, Call, Ask, Begin, Write, Commit, Abandon, Answer, Opening, Reading, Judging, Counting, Listing, Building, Digesting, Stepping, Ruling, Accepted, Refused, ruling, Event, Did}
+use Rattle.history.specs.Model.{Form, Plain, Signed, Query, Open, ReadCommitted, ReadStaged, IsVerified, CountVerified, ListFaults, SigningBlock, SigningDigest, Call, Ask, Begin, Write, Commit, Abandon, Answer, Opening, Reading, Judging, Counting, Listing, Building, Digesting, Stepping, Ruling, Accepted, Refused, Dropped, ruling, Event, Did}
 
 pub record State : Type 0 where
   pub image : List ℕ
@@ -83,6 +83,7 @@ beginOf (Did (Write q place bytes) Accepted) = 0
 beginOf (Did (Commit form) Accepted) = 0
 beginOf (Did Abandon Accepted) = 0
 beginOf (Did c Refused) = 0
+beginOf (Did c Dropped) = 0
 
 abbrev pub commitOf : Event → ℕ
 commitOf (Did (Ask query) Accepted) = 0
@@ -91,6 +92,7 @@ commitOf (Did (Write q place bytes) Accepted) = 0
 commitOf (Did (Commit form) Accepted) = 1
 commitOf (Did Abandon Accepted) = 0
 commitOf (Did c Refused) = 0
+commitOf (Did c Dropped) = 0
 
 unfoldable pub begins : List Event → ℕ
 begins [] = 0
@@ -105,7 +107,7 @@ pub record Put : Type 0 where
   pub place : ℕ
   pub bytes : List ℕ
 
--- what an accepted write puts into partition p; no other call, and none refused, puts anything
+-- what an accepted write puts into partition p; no other call, and none refused or dropped, puts anything
 abbrev pub putBy : (p : ℕ) → Event → Option Put
 putBy p (Did (Ask query) Accepted) = none
 putBy p (Did Begin Accepted) = none
@@ -113,6 +115,7 @@ putBy p (Did (Write q place bytes) Accepted) = cond (eqb q p) (some (record { pl
 putBy p (Did (Commit form) Accepted) = none
 putBy p (Did Abandon Accepted) = none
 putBy p (Did c Refused) = none
+putBy p (Did c Dropped) = none
 
 -- the value that it gives byte i
 abbrev pub valueAt : (i : ℕ) → Option Put → Option ℕ

@@ -16,7 +16,10 @@ use Rattle.signatures.specs.Signatures.{signatureRange}
 use Rattle.dpfs.specs.Free.{InRange, Free}
 use Rattle.ivfc.specs.Views.{contentOf, verified}
 use Rattle.views.specs.Places.{partitions, partitionOf, committedView, stagedView, spaceOf}
+use Rattle.layout.specs.declared.Outcome.{Outcome}
 use Rattle.layout.specs.declared.Outcome.the-variants as outcome
+use Rattle.steps.specs.declared.Ending.{Ending}
+use Rattle.steps.specs.declared.Ending.the-variants as ending
 use Rattle.steps.specs.Calls.{readCommitted, isVerified, countVerified}
 use Rattle.faults.specs.Faults.{kept, faults, countFaults}
 use Rattle.faults.specs.Laws.{ofLevel}
@@ -150,13 +153,18 @@ pub record LandingTheorem : Type 0 where
 
 -- ---- progress: such lists get on, so that the statements above are not empty
 
+-- how a call ends whose last check has this outcome
+abbrev pub endedBy : Outcome → Ending
+endedBy outcome.Accepted = ending.Accepted
+endedBy (outcome.Refused r) = ending.Refused r
+
 -- after any list, 13 alone stops a begin, a plain commit and an abandon: 14 never comes up; a signed commit is stopped by 15 besides
 pub record ProgressTheorem : Type 0 where
   pub idle : (p : ℕ) (st : State) → Start p st → (calls : List Call) → after calls st .session .begun ≡ false → ruled Begin (after calls st) ≡ Accepted
   pub begun : (p : ℕ) (st : State) → Start p st → (calls : List Call) → after calls st .session .begun ≡ true
       → (ruled (Commit Plain) (after calls st) ≡ Accepted) × (ruled Abandon (after calls st) ≡ Accepted)
   pub signs : (p : ℕ) (st : State) → Start p st → (calls : List Call) (key : List ℕ) (signer : Signer) → after calls st .session .begun ≡ true
-      → perform (Commit (Signed key signer)) (after calls st) .answer ≡ Stepping (outcomeOf (signed (after calls st .image) signer))
+      → perform (Commit (Signed key signer)) (after calls st) .answer ≡ Stepping (endedBy (outcomeOf (signed (after calls st .image) signer)))
 
 -- ---- signing
 

@@ -1,4 +1,4 @@
-// Lists of calls: the model that they follow, and the theorem that they do. Definitions and proofs; the one function asks for the theorem.
+// Lists of calls: the model that they follow, and the theorem that they do. Definitions and proofs; the functions ask for the theorems.
 //
 // Wrong models and claims that each theorem excludes, tried as edits in must-fail/. There is no program here to edit: a wrong program of a call is
 // refused in views, dpfs, update, steps and container already.
@@ -6,9 +6,15 @@
 //   untouched_block_refused, write_to_any_partition;
 // - crash: every_byte_free;
 // - landing: first_value_wins, write_marks_nothing.
+ghost use Rattle.history.specs.ReadBack.{ReadBack};
 ghost use Rattle.history.specs.Theorem.{Demand3};
 
 // Demand 3 holds: the check of this crate asks for the theorem by its statement, not by a proof's name.
 pub fn demand3()
     ensures { λ _. ⌜ Demand3 ⌝ }
+{}
+
+// So does what a write leaves.
+pub fn read_back()
+    ensures { λ _. ⌜ ReadBack ⌝ }
 {}

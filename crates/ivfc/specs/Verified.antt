@@ -1,16 +1,21 @@
 -- When a block is verified (01: when it stands). A hash tree has levels 0 to 4: level 0 is the master hash, level 4 the data. `levels i` is
 -- level i, and `content i y` its byte at y.
 use mathlib.Core.List.{List}
-use mathlib.Core.Bool.{Bool, true, _&&_, cond}
+use mathlib.Core.Bool.{Bool, true, not, _&&_, cond}
 use Prim.Native.Nat.{ℕ, zero, suc, _+_}
+use lib.ListN.{replicate}
 use Rattle.number.specs.declared.Level.{Level}
 use Rattle.number.specs.Bytes.{sameBytes}
 use Rattle.sha256.specs.Sha256.{sha256}
 use Rattle.ivfc.specs.Blocks.{block, entry, parent}
 
--- an entry vouches for a block whose SHA-256 it equals
+-- an entry of 32 zero bytes
+unfoldable pub zeroEntry : (entry : List ℕ) → Bool
+zeroEntry entry = sameBytes entry (replicate 32 0)
+
+-- an entry vouches for a block whose SHA-256 it equals; one of 32 zero bytes vouches for none
 unfoldable pub vouches : (digest entry : List ℕ) → Bool
-vouches digest entry = sameBytes digest entry
+vouches digest entry = sameBytes digest entry && not (zeroEntry entry)
 
 module _ (levels : ℕ → Level) (content : ℕ → ℕ → ℕ) where
   -- the entry of block b of level i, one level higher, matches

@@ -58,3 +58,9 @@ pub struct Judged {
     pub end: u64,
     pub memory: Memory,
 }
+
+// Whether each of two blocks is verified.
+pub struct Two {
+    pub first: bool,
+    pub second: bool,
+}

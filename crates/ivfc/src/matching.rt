@@ -8,7 +8,7 @@ ghost use mathlib.Core.Path.{_≡_};
 ghost use Prim.Native.Nat.{ℕ, _+_, _-_, _*_, _≤_, _<_};
 ghost use lib.ListN.{length};
 ghost use Rattle.number.specs.Blocks.{blocks};
-ghost use Rattle.ivfc.specs.Verified.{vouches, firstNot, countOf};
+ghost use Rattle.ivfc.specs.Verified.{zeroEntry, vouches, firstNot, countOf};
 ghost use Rattle.ivfc.specs.Rows.{agree};
 ghost use Rattle.ivfc.specs.Views.{levelOf, matches};
 ghost use Rattle.ivfc.specs.Rules.{ViewRules};
@@ -16,11 +16,19 @@ ghost use Rattle.ivfc.specs.Rules.{ViewRules};
 // The size of an entry, to count in slices.
 const ENTRY: usize = super::ENTRY as usize;
 
+// An entry of 32 zero bytes.
+pub fn zero_entry(entry: &[u8]) -> bool
+    ensures { λ r. ⌜ r ≡ zeroEntry (now (entry .entry)) ⌝ }
+{
+    let zeros = [0u8; ENTRY];
+    same_bytes(entry, &zeros)
+}
+
 // An entry vouches for a block with this digest.
-fn entry_vouches(digest: &[u8], entry: &[u8]) -> bool
+pub fn entry_vouches(digest: &[u8], entry: &[u8]) -> bool
     ensures { λ r. ⌜ r ≡ vouches (now (digest .entry)) (now (entry .entry)) ⌝ }
 {
-    same_bytes(digest, entry)
+    same_bytes(digest, entry) & !zero_entry(entry)
 }
 
 // Compares digests with entries, one by one.

@@ -3,6 +3,7 @@ use super::ENTRY;
 use super::Judged;
 use super::Memory;
 use super::Seen;
+use super::Two;
 use super::View;
 use super::gathering::level_of;
 use super::matching::block_matches;
@@ -174,6 +175,42 @@ pub fn first_unverified(view: View, image: &[u8], i: u64, first: u64, last: u64)
 {
     let judged = judge(view, image, i, first, last, nothing_seen());
     judged.end
+}
+
+// Whether block b of level i is verified, where `above` tells it of the block that holds its entry: below one that is not nothing is hashed.
+fn verified_under(view: View, image: &[u8], i: u64, b: u64, above: bool) -> bool
+    requires { ⌜ (ViewRules view (length (now image))) × (1 ≤ i) × (i ≤ 4) × (b < blocks (levelOf view i)) ⌝ }
+    requires { ⌜ above ≡ verified view (now image) (i - 1) (parent (levelOf view (i - 1)) b) ⌝ }
+    ensures { λ r. ⌜ r ≡ verified view (now (image .entry)) i b ⌝ }
+{
+    if above {
+        return block_matches(view, image, i, b);
+    }
+    false
+}
+
+// Whether blocks a and b of level i are verified. A hash block above both is hashed once.
+pub fn judge_two(view: View, image: &[u8], i: u64, a: u64, b: u64) -> Two
+    requires { ⌜ (ViewRules view (length (now image))) × (i ≤ 4) × (a < blocks (levelOf view i)) × (b < blocks (levelOf view i)) ⌝ }
+    ensures { λ r. ⌜ (r .first ≡ verified view (now (image .entry)) i a) × (r .second ≡ verified view (now (image .entry)) i b) ⌝ }
+{
+    if i == 0 {
+        return Two {
+            first: true,
+            second: true,
+        };
+    }
+    let upper = level_of(view, i - 1);
+    let above = judge_two(view, image, i - 1, parent_of(upper, a), parent_of(upper, b));
+    let first = verified_under(view, image, i, a, above.first);
+    if a == b {
+        return Two {
+            first,
+            second: first,
+        };
+    }
+    let second = verified_under(view, image, i, b, above.second);
+    Two { first, second }
 }
 
 // How many blocks of level 4 match whose entries stand in the blocks p to end - 1 of level 3.

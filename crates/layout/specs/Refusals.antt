@@ -1,7 +1,7 @@
 -- The paper's number of each refusal, and the value that it carries.
 use Prim.Native.Nat.{ℕ}
 use Rattle.layout.specs.declared.Refusal.{Refusal}
-use Rattle.layout.specs.declared.Refusal.the-variants.{Length, Format, Selection, Geometry, TableHash, Descriptor, Placement, NoPartition, OutOfRange, Unverified, UnverifiedAbove, ExternalLevel, SessionState, Stale, SignerKind, Signature, DigestTooLong}
+use Rattle.layout.specs.declared.Refusal.the-variants.{Length, Format, Selection, Geometry, TableHash, Descriptor, Placement, NoPartition, OutOfRange, Unverified, ExternalLevel, SessionState, Stale, SignerKind, Signature, DigestTooLong}
 
 abbrev pub number : Refusal → ℕ
 number Length = 1
@@ -14,7 +14,6 @@ number Placement = 7
 number NoPartition = 8
 number OutOfRange = 9
 number (Unverified block) = 10
-number (UnverifiedAbove block) = 11
 number ExternalLevel = 12
 number SessionState = 13
 number Stale = 14
@@ -22,7 +21,7 @@ number SignerKind = 15
 number Signature = 16
 number DigestTooLong = 22
 
--- 10 and 11 carry the lowest block number of level 4 to which they apply, others carry 0
+-- 10 carries the lowest block number of level 4 to which it applies, others carry 0
 abbrev pub carried : Refusal → ℕ
 carried Length = 0
 carried Format = 0
@@ -34,7 +33,6 @@ carried Placement = 0
 carried NoPartition = 0
 carried OutOfRange = 0
 carried (Unverified block) = block
-carried (UnverifiedAbove block) = block
 carried ExternalLevel = 0
 carried SessionState = 0
 carried Stale = 0

@@ -36,8 +36,6 @@ pub enum Refusal {
     OutOfRange,
     // A block of level 4 that is not verified.
     Unverified(u64),
-    // A block of level 4 below a hash block that is not verified.
-    UnverifiedAbove(u64),
     // A write to a partition with external level 4.
     ExternalLevel,
     // Idle where begun is needed, or begun where idle is.

@@ -17,7 +17,6 @@ pub fn number_of(r: Refusal) -> u64
         Refusal::NoPartition => 8,
         Refusal::OutOfRange => 9,
         Refusal::Unverified(_) => 10,
-        Refusal::UnverifiedAbove(_) => 11,
         Refusal::ExternalLevel => 12,
         Refusal::SessionState => 13,
         Refusal::Stale => 14,
@@ -27,7 +26,7 @@ pub fn number_of(r: Refusal) -> u64
     }
 }
 
-// The lowest block number of level 4 to which 10 or 11 applies, and 0 for the others.
+// The lowest block number of level 4 to which 10 applies, and 0 for the others.
 pub fn carried_by(r: Refusal) -> u64
     ensures { λ n. ⌜ n ≡ carried r ⌝ }
 {
@@ -42,7 +41,6 @@ pub fn carried_by(r: Refusal) -> u64
         Refusal::NoPartition => 0,
         Refusal::OutOfRange => 0,
         Refusal::Unverified(block) => block,
-        Refusal::UnverifiedAbove(block) => block,
         Refusal::ExternalLevel => 0,
         Refusal::SessionState => 0,
         Refusal::Stale => 0,

@@ -18,12 +18,13 @@ use Rattle.layout.proofs.GuaranteeLaws.{guarantees}
 use Rattle.dpfs.specs.declared.Space.{Space}
 use Rattle.ivfc.specs.declared.View.{View}
 use Rattle.ivfc.specs.Rules.{ViewRules}
-use Rattle.update.specs.Staged.{writtenTo}
+use Rattle.update.specs.Staged.{writtenTo, holdsZero}
 use Rattle.update.specs.Rules.{WriteRules}
 use Rattle.views.specs.Places.{partitions, stagedView, spaceOf}
 use Rattle.views.proofs.PlaceLaws.{staged-rules}
 use Rattle.layout.specs.declared.Outcome.{Outcome}
 use Rattle.layout.specs.declared.Outcome.the-variants as outcome
+use Rattle.steps.specs.declared.Ending.the-variants as ending
 use Rattle.steps.specs.declared.Session.{Session}
 use Rattle.steps.specs.declared.Step.{Step}
 use Rattle.steps.specs.Sessions.{idle, begunImage, current, writeOutcome}
@@ -32,7 +33,7 @@ use Rattle.signing.specs.Blocks.{signingBlock}
 use Rattle.signing.specs.Calls.{Answer, signed, outcomeOf}
 use Rattle.signing.proofs.AnswerLaws.{refused-is, accepted-is}
 use Rattle.commits.specs.Committing.{committedImage, committedSigned}
-use Rattle.steps.specs.Calls.{refusalOf, After, Stepped, unchanged, done, leaving, begin, writeTo, write, commit, commitSigned, abandon, Abandoned, beginIn, inSession, writeOn, commitOn, commitBy}
+use Rattle.steps.specs.Calls.{refusalOf, After, Stepped, unchanged, done, finished, leaving, begin, writeTo, write, commit, commitSigned, abandon, Abandoned, beginIn, inSession, writeOn, commitOn, commitBy}
 use Rattle.steps.proofs.WriteLaws.{write-rules}
 
 -- which arm of a test is taken
@@ -46,7 +47,7 @@ no-of false a b e = refl
 
 -- a step that refuses
 abbrev pub Refuses : Step → Session → Refusal → Type 0
-Refuses step session r = (step .outcome ≡ outcome.Refused r) × (step .session ≡ session)
+Refuses step session r = (step .outcome ≡ ending.Refused r) × (step .session ≡ session)
 
 stepped-refused : (step : Step) (image : List ℕ) (session : Session) (r : Refusal) (after : After) → after ≡ unchanged image session r
     → Refuses step session r → Stepped step image after
@@ -56,13 +57,24 @@ stepped-refused step image session r after e (o, s) = record {
   stored = sym (ap (λ (a : After). a .image) e);
 }
 
-stepped-done : (step : Step) (image left : List ℕ) (session : Session) (after : After) → after ≡ done image session → step .outcome ≡ outcome.Accepted → step .session ≡ session
+stepped-done : (step : Step) (image left : List ℕ) (session : Session) (after : After) → after ≡ done image session → step .outcome ≡ ending.Accepted → step .session ≡ session
     → left ≡ image → Stepped step left after
 stepped-done step image left session after e o s l = record {
   outcome = o ∙ sym (ap (λ (a : After). a .outcome) e);
   session = s ∙ sym (ap (λ (a : After). a .session) e);
   stored = l ∙ sym (ap (λ (a : After). a .image) e);
 }
+
+-- a write that has stored, whether it holds a digest that is all zero or not
+stepped-finished : (zero : Bool) (step : Step) (image left : List ℕ) (session : Session) (after : After)
+    → after ≡ cond zero (record { outcome = ending.Dropped; image = image; session = idle }) (done image session)
+    → (step .outcome ≡ cond zero ending.Dropped ending.Accepted) × (step .session ≡ cond zero idle session) → left ≡ image → Stepped step left after
+stepped-finished true step image left session after e (o, s) l = record {
+  outcome = o ∙ sym (ap (λ (a : After). a .outcome) e);
+  session = s ∙ sym (ap (λ (a : After). a .session) e);
+  stored = l ∙ sym (ap (λ (a : After). a .image) e);
+}
+stepped-finished false step image left session after e (o, s) l = stepped-done step image left session after e o s l
 
 module _ (image : List ℕ) (answer : Opened) (a : answer ≡ opened image) (session : Session) where
   -- ---- an image that does not open
@@ -97,7 +109,7 @@ module _ (image : List ℕ) (answer : Opened) (a : answer ≡ opened image) (ses
     begin-busy b step s = stepped-refused step image session SessionState _ (begun-is ∙ yes-of (session .begun) _ _ b) s
 
     pub begin-done : session .begun ≡ false → (header left : List ℕ) → header ≡ headerBytes image → left ≡ begunImage c image
-        → Stepped (record { outcome = outcome.Accepted; session = record { begun = true; header = header } }) left (begin image session)
+        → Stepped (record { outcome = ending.Accepted; session = record { begun = true; header = header } }) left (begin image session)
     begin-done b header left h l =
         stepped-done _ (begunImage c image) left (record { begun = true; header = headerBytes image }) _ (begun-is ∙ no-of (session .begun) _ _ b) refl
         (ap (λ (x : List ℕ). record { begun = true; header = x }) h) l
@@ -135,7 +147,7 @@ write-there image c session q place bytes left m step s = subst (Stepped step le
 -- ---- commit, and the signed one with its 15
 
 pub commit-done : (image : List ℕ) (c : Container) (next : Session) (left : List ℕ) → next ≡ idle → left ≡ committedImage c image
-    → Stepped (record { outcome = outcome.Accepted; session = next }) left (commitOn image c)
+    → Stepped (record { outcome = ending.Accepted; session = next }) left (commitOn image c)
 commit-done image c next left i l = stepped-done _ (committedImage c image) left idle _ refl refl i l
 
 module _ (image : List ℕ) (c : Container) (session : Session) (key : List ℕ) (signer : Signer) (answer : Outcome) (a : answer ≡ outcomeOf (signed image signer)) where
@@ -145,7 +157,7 @@ module _ (image : List ℕ) (c : Container) (session : Session) (key : List ℕ)
       stepped-refused step image session r _ (ap (λ (x : Answer). commitBy image session key signer x c) (refused-is (signed image signer) r (sym a ∙ e))) s
 
   pub signed-done : answer ≡ outcome.Accepted → (next : Session) (left : List ℕ) → next ≡ idle → left ≡ committedSigned c image key signer
-      → Stepped (record { outcome = outcome.Accepted; session = next }) left (commitBy image session key signer (signed image signer) c)
+      → Stepped (record { outcome = ending.Accepted; session = next }) left (commitBy image session key signer (signed image signer) c)
   signed-done e next left i l =
       stepped-done _ (committedSigned c image key signer) left idle _
       (ap (λ (x : Answer). commitBy image session key signer x c) (accepted-is image signer (sym a ∙ e) .0)) refl i l
@@ -167,24 +179,40 @@ module _ (image : List ℕ) (c : Container) (g : Guarantees image c) (session : 
     outcome-is : answer ≡ writeOutcome (stagedView c q) image place (length bytes)
     outcome-is = a ∙ ap (λ (x : View). writeOutcome x image place (length bytes)) v
 
-    whole-is : writeTo c image session q place bytes ≡ leaving answer image (writtenTo (stagedView c q) place bytes image) session
+    abbrev after : List ℕ
+    after = writtenTo (stagedView c q) place bytes image
+
+    whole-is : writeTo c image session q place bytes ≡ leaving answer image session (finished (stagedView c q) place bytes session after)
     whole-is =
         no-of (stagedView c q .external) _ _ internal
-        ∙ ap (λ (o : Outcome). leaving o image (writtenTo (stagedView c q) place bytes image) session) (sym outcome-is)
+        ∙ ap (λ (o : Outcome). leaving o image session (finished (stagedView c q) place bytes session after)) (sym outcome-is)
 
-    pub write-refused : (r : Refusal) → answer ≡ outcome.Refused r → Stepped (record { outcome = answer; session = session }) image (writeTo c image session q place bytes)
-    write-refused r f = stepped-refused _ image session r _ (whole-is ∙ ap (λ (o : Outcome). leaving o image (writtenTo (stagedView c q) place bytes image) session) f) (f, refl)
+    pub write-refused : (r : Refusal) → answer ≡ outcome.Refused r → (step : Step) → Refuses step session r → Stepped step image (writeTo c image session q place bytes)
+    write-refused r f step s =
+        stepped-refused step image session r _
+        (whole-is ∙ ap (λ (o : Outcome). leaving o image session (finished (stagedView c q) place bytes session after)) f) s
 
     module _ (f : answer ≡ outcome.Accepted) where
       pub write-asks : (space : Space) → space ≡ spaceOf c → WriteRules space view image place bytes
       write-asks space s = rw (s, v) (write-rules image c g q k internal place bytes (sym outcome-is ∙ f))
 
-      pub write-done : (left : List ℕ) → left ≡ writtenTo view place bytes image
-          → Stepped (record { outcome = outcome.Accepted; session = session }) left (writeTo c image session q place bytes)
-      write-done left l =
-          stepped-done _ (writtenTo (stagedView c q) place bytes image) left session _
-          (whole-is ∙ ap (λ (o : Outcome). leaving o image (writtenTo (stagedView c q) place bytes image) session) f) refl refl
-          (l ∙ ap (λ (x : View). writtenTo x place bytes image) v)
+      -- what the write has made, and whether it holds a digest that is all zero
+      module _ (left : List ℕ) (zero : Bool) (l : left ≡ writtenTo view place bytes image) (z : zero ≡ holdsZero view place bytes left) where
+        left-is : left ≡ after
+        left-is = l ∙ ap (λ (x : View). writtenTo x place bytes image) v
+
+        zero-is : holdsZero (stagedView c q) place bytes after ≡ zero
+        zero-is = sym (z ∙ ap (λ (x : View). holdsZero x place bytes left) v ∙ ap (holdsZero (stagedView c q) place bytes) left-is)
+
+        ended : writeTo c image session q place bytes ≡ finished (stagedView c q) place bytes session after
+        ended = whole-is ∙ ap (λ (o : Outcome). leaving o image session (finished (stagedView c q) place bytes session after)) f
+
+        pub write-done : (step : Step) → (step .outcome ≡ cond zero ending.Dropped ending.Accepted) × (step .session ≡ cond zero idle session)
+            → Stepped step left (writeTo c image session q place bytes)
+        unfolding finished
+        write-done step s =
+            stepped-finished zero step after left session _
+            (ended ∙ ap (λ (t : Bool). cond t (record { outcome = ending.Dropped; image = after; session = idle }) (done after session)) zero-is) s left-is
 
 -- ---- abandon
 
@@ -192,12 +220,12 @@ pub abandon-idle : (session : Session) (step : Step) → session .begun ≡ fals
     → (step .outcome ≡ abandon session .outcome) × (step .session ≡ abandon session .session)
 unfolding abandon
 abandon-idle session step b (o, s) =
-    let e : abandon session ≡ record { outcome = outcome.Refused SessionState; session = session } = no-of (session .begun) _ _ b in
+    let e : abandon session ≡ record { outcome = ending.Refused SessionState; session = session } = no-of (session .begun) _ _ b in
     (o ∙ sym (ap (λ (x : Abandoned). x .outcome) e), s ∙ sym (ap (λ (x : Abandoned). x .session) e))
 
 pub abandon-done : (session next : Session) → session .begun ≡ true → next ≡ idle
-    → (outcome.Accepted ≡ abandon session .outcome) × (next ≡ abandon session .session)
+    → (ending.Accepted ≡ abandon session .outcome) × (next ≡ abandon session .session)
 unfolding abandon
 abandon-done session next b i =
-    let e : abandon session ≡ record { outcome = outcome.Accepted; session = idle } = yes-of (session .begun) _ _ b in
+    let e : abandon session ≡ record { outcome = ending.Accepted; session = idle } = yes-of (session .begun) _ _ b in
     (sym (ap (λ (x : Abandoned). x .outcome) e), i ∙ sym (ap (λ (x : Abandoned). x .session) e))

@@ -22,7 +22,7 @@ use Rattle.number.proofs.BlockLaws.{touches-is}
 use Rattle.number.proofs.OverlayLaws.{within-in}
 use Rattle.layout.specs.declared.Container.{Container}
 use Rattle.layout.specs.declared.Refusal.{Refusal}
-use Rattle.layout.specs.declared.Refusal.the-variants.{OutOfRange, Unverified, UnverifiedAbove}
+use Rattle.layout.specs.declared.Refusal.the-variants.{OutOfRange, Unverified}
 use Rattle.layout.specs.Headers.{headerBytes}
 use Rattle.layout.specs.Tables.{active, inactive}
 use Rattle.layout.specs.Guarantees.{Guarantees}
@@ -32,12 +32,11 @@ use Rattle.dpfs.specs.Free.{InRange, Free}
 use Rattle.dpfs.specs.Rules.{Aside, SpaceRules}
 use Rattle.dpfs.proofs.SpareLaws.{aside-swap}
 use Rattle.ivfc.specs.declared.View.{View}
-use Rattle.ivfc.specs.Blocks.{parent}
 use Rattle.ivfc.specs.Verified.{firstNot}
 use Rattle.ivfc.specs.Views.{levelOf, innerByte, contentOf, verified}
 use Rattle.ivfc.specs.Rules.{ViewRules}
 use Rattle.ivfc.proofs.LowestLaws.{first-lowest, lowest-past}
-use Rattle.update.specs.Staged.{writtenTo}
+use Rattle.update.specs.Staged.{writtenTo, holdsZero}
 use Rattle.update.specs.Covering.{covered}
 use Rattle.update.specs.Rules.{StagedRules, WriteRules}
 use Rattle.update.proofs.ImageLaws as update
@@ -47,7 +46,7 @@ use Rattle.layout.specs.declared.Outcome.{Outcome}
 use Rattle.layout.specs.declared.Outcome.the-variants as outcome
 use Rattle.steps.specs.declared.Session.{Session}
 use Rattle.steps.specs.Reading.{touched, refuseLowest, refuseOutside}
-use Rattle.steps.specs.Sessions.{inMaster, inSomeMaster, allBelow, stagedTable, tableStaged, current, aboveVerified, endsOutcome, writeOutcome}
+use Rattle.steps.specs.Sessions.{inMaster, inSomeMaster, allBelow, stagedTable, tableStaged, current, endsOutcome, writeOutcome}
 use Rattle.steps.proofs.ReadLaws.{touched-some}
 use Rattle.steps.proofs.KeptLaws.{kept-header, kept-active, kept-outer}
 use Rattle.steps.proofs.BeginLaws.{all-below, staged-same, aside, descriptors}
@@ -90,15 +89,20 @@ lowest-accepted P refusal view place n next e =
             lowest-past P (blockOf (view .level4) place) (lastBlock (view .level4) place n) _
             (first-lowest P (blockOf (view .level4) place) (lastBlock (view .level4) place n) (omega arith)) (omega arith) b f k
 
--- an accepted write lies in level 4, and the block above each touched block is verified
+-- an accepted write lies in level 4, and each block that it touches is covered in full or verified
 pub write-accepted : (view : View) (image : List ℕ) (place n : ℕ) → writeOutcome view image place n ≡ outcome.Accepted
-    → (place + n ≤ view .level4 .size) × ((b : ℕ) → touches (view .level4) place n b ≡ true → aboveVerified view image b ≡ true)
-unfolding writeOutcome
+    → (place + n ≤ view .level4 .size)
+    × ((b : ℕ) → touches (view .level4) place n b ≡ true → (covered (view .level4) place n b || verified view image 4 b) ≡ true)
+unfolding writeOutcome endsOutcome
 write-accepted view image place n e =
     let inner = inside-accepted view place n _ e in
-    (inner .0, lowest-accepted (aboveVerified view image) UnverifiedAbove view place n (endsOutcome view image place n) (inner .1) .0)
+    (inner .0, lowest-accepted (λ (b : ℕ). covered (view .level4) place n b || verified view image 4 b) Unverified view place n outcome.Accepted (inner .1) .0)
 
 -- ---- tests
+
+right : (a b : Bool) → a ≡ false → a || b ≡ true → b ≡ true
+right true b p e = absurd (true≢false p)
+right false b p e = e
 
 both : (a b : Bool) → a ≡ true → a && b ≡ false → b ≡ false
 both true b p e = e
@@ -150,25 +154,24 @@ module _ (image : List ℕ) (c : Container) (g : Guarantees image c) (q : ℕ) (
     after = writtenTo (stagedView c q) place bytes image
 
     pub write-rules : WriteRules (spaceOf c) (stagedView c q) image place bytes
-    write-rules = record { rules = staged-write-rules internal; fits = write-accepted (stagedView c q) image place (length bytes) accepted .0 }
-
-    vouched : (b : ℕ) → touches (stagedView c q .level4) place (length bytes) b ≡ true
-        → verified (stagedView c q) image 3 (parent (stagedView c q .level3) b) ≡ true
-    unfolding aboveVerified levelOf
-    vouched b h = write-accepted (stagedView c q) image place (length bytes) accepted .1 b h
+    write-rules = record {
+      rules = staged-write-rules internal;
+      fits = write-accepted (stagedView c q) image place (length bytes) accepted .0;
+      judged = λ b t n. right (covered (stagedView c q .level4) place (length bytes) b) _ n (write-accepted (stagedView c q) image place (length bytes) accepted .1 b t);
+    }
 
     pub written-only : Keeps (Free (spaceOf c) image) image after
-    written-only = update.write-free (spaceOf c) (stagedView c q) image place bytes write-rules vouched
+    written-only = update.write-free (spaceOf c) (stagedView c q) image place bytes write-rules
 
     pub written-fits : place + length bytes ≤ stagedView c q .level4 .size
     written-fits = write-rules .fits
 
     pub written-bytes : (y : ℕ) → y < stagedView c q .level4 .size → contentOf (stagedView c q) after 4 y ≡ overlay (contentOf (stagedView c q) image 4) place bytes y
-    written-bytes = update.write-bytes (spaceOf c) (stagedView c q) image place bytes write-rules vouched
+    written-bytes = update.write-bytes (spaceOf c) (stagedView c q) image place bytes write-rules
 
-    pub written-verified : (b : ℕ) → b < blocks (stagedView c q .level4)
+    pub written-verified : holdsZero (stagedView c q) place bytes after ≡ false → (b : ℕ) → b < blocks (stagedView c q .level4)
         → verified (stagedView c q) after 4 b ≡ (touches (stagedView c q .level4) place (length bytes) b || verified (stagedView c q) image 4 b)
-    written-verified = update.write-verified (spaceOf c) (stagedView c q) image place bytes write-rules vouched
+    written-verified = update.write-verified (spaceOf c) (stagedView c q) image place bytes write-rules
 
     -- ---- the session stays current
 
@@ -177,7 +180,7 @@ module _ (image : List ℕ) (c : Container) (g : Guarantees image c) (q : ℕ) (
         → getD after (inactive (c .header) .offset + i) 0 ≡ getD image (inactive (c .header) .offset + i) 0
     unfolding spaceOf inMaster stagedView viewIn masterIn
     written-table i h o =
-        update.write-table (spaceOf c) (stagedView c q) image place bytes write-rules vouched (inactive (c .header) .offset + i) (omega arith, omega arith)
+        update.write-table (spaceOf c) (stagedView c q) image place bytes write-rules (inactive (c .header) .offset + i) (omega arith, omega arith)
         (λ f. true≢false (sym (within-in (slotOf c q .descriptor .offset + partitionOf c q .difi .master .offset) (partitionOf c q .difi .master .size) i
         (omega arith) (omega arith)) ∙ o))
 
@@ -246,7 +249,7 @@ module _ (image : List ℕ) (c : Container) (g : Guarantees image c) (q : ℕ) (
           → getD after (stagedView c r .master .offset + y) 0 ≡ getD image (stagedView c r .master .offset + y) 0
       unfolding spaceOf
       other-hash y h =
-          update.write-table (spaceOf c) (stagedView c q) image place bytes write-rules vouched (stagedView c r .master .offset + y)
+          update.write-table (spaceOf c) (stagedView c q) image place bytes write-rules (stagedView c r .master .offset + y)
           (omega (arith, staged-master image c g r l), omega (arith, staged-master image c g r l)) clash
         where
           clash : InRange (stagedView c q .master) (stagedView c r .master .offset + y) → ⊥
@@ -255,7 +258,7 @@ module _ (image : List ℕ) (c : Container) (g : Guarantees image c) (q : ℕ) (
       other-inner : (m : Level) (y : ℕ) → m .offset + y < treeOf c r .level3 .size → innerByte (stagedView c r) after m y ≡ innerByte (stagedView c r) image m y
       unfolding innerByte stagedView viewIn
       other-inner m y h =
-          update.write-other (spaceOf c) (stagedView c q) image place bytes write-rules vouched (treeOf c r) (tree-among image c g r l) beside
+          update.write-other (spaceOf c) (stagedView c q) image place bytes write-rules (treeOf c r) (tree-among image c g r l) beside
           (not (treeOf c r .live)) (m .offset + y) h
 
       room : (m : Level) → m .offset + m .size ≤ stagedView c r .tree .level3 .size → (y : ℕ) → y < m .size → m .offset + y < treeOf c r .level3 .size

@@ -1,5 +1,5 @@
 -- The calls: what each answers and leaves, for any image, any session value and any numbers. The first check that fails decides the answer;
--- a refusal leaves the image, the buffer and the session as they were.
+-- a refusal leaves the image, the buffer and the session as they were; a write's 17 alone does not.
 use Prim.Native.Nat.{ℕ}
 use mathlib.Core.Path.{_≡_}
 use mathlib.Core.Bool.{Bool, true, false, not, cond}
@@ -13,7 +13,8 @@ use Rattle.layout.specs.declared.Refusal.{Refusal}
 use Rattle.layout.specs.declared.Refusal.the-variants.{Length, NoPartition, ExternalLevel, SessionState, Stale}
 use Rattle.layout.specs.Headers.{headerBytes}
 use Rattle.layout.specs.Opening.{opened}
-use Rattle.update.specs.Staged.{writtenTo}
+use Rattle.ivfc.specs.declared.View.{View}
+use Rattle.update.specs.Staged.{writtenTo, holdsZero}
 use Rattle.views.specs.Places.{partitions, committedView, stagedView}
 use Rattle.layout.specs.declared.Outcome.{Outcome}
 use Rattle.layout.specs.declared.Outcome.the-variants as outcome
@@ -21,6 +22,8 @@ use Rattle.steps.specs.declared.Verdict.{Verdict}
 use Rattle.steps.specs.declared.Verdict.the-variants as verdict
 use Rattle.steps.specs.declared.Count.{Count}
 use Rattle.steps.specs.declared.Count.the-variants as count
+use Rattle.steps.specs.declared.Ending.{Ending}
+use Rattle.steps.specs.declared.Ending.the-variants as ending
 use Rattle.steps.specs.declared.Session.{Session}
 use Rattle.steps.specs.declared.Step.{Step}
 use Rattle.steps.specs.Reading.{Read, readFrom, verdictOn, countIn}
@@ -82,15 +85,15 @@ countVerified image q = countVerifiedIn image q (opened image)
 
 -- what such a call leaves
 pub record After : Type 0 where
-  pub outcome : Outcome
+  pub outcome : Ending
   pub image : List ℕ
   pub session : Session
 
 abbrev pub unchanged : List ℕ → Session → Refusal → After
-unchanged image session r = record { outcome = outcome.Refused r; image = image; session = session }
+unchanged image session r = record { outcome = ending.Refused r; image = image; session = session }
 
 abbrev pub done : List ℕ → Session → After
-done image session = record { outcome = outcome.Accepted; image = image; session = session }
+done image session = record { outcome = ending.Accepted; image = image; session = session }
 
 -- a call's step, and the image that it left, are what the definition says
 pub record Stepped (step : Step) (image : List ℕ) (after : After) : Type 0 where
@@ -108,16 +111,22 @@ beginIn image session (opening.Valid c) =
 unfoldable pub begin : List ℕ → Session → After
 begin image session = beginIn image session (opened image)
 
--- an outcome that is accepted leaves the image that the call makes
-abbrev pub leaving : Outcome → (image after : List ℕ) → Session → After
-leaving outcome.Accepted image after session = done after session
-leaving (outcome.Refused r) image after session = unchanged image session r
+-- a write that is finished: if it holds a digest that is all zero, it is dropped, which is 17, and the session is idle
+unfoldable pub finished : View → (place : ℕ) → (bytes : List ℕ) → Session → (after : List ℕ) → After
+finished view place bytes session after =
+    cond (holdsZero view place bytes after) (record { outcome = ending.Dropped; image = after; session = idle }) (done after session)
 
--- a write to a partition that is there: 12, 9, 11, 10
+-- what was judged: if it is accepted the call goes on, else it is refused
+abbrev pub leaving : Outcome → List ℕ → Session → After → After
+leaving outcome.Accepted image session next = next
+leaving (outcome.Refused r) image session next = unchanged image session r
+
+-- a write to a partition that is there: 12, 9, 10, and 17 last
 abbrev pub writeTo : Container → List ℕ → Session → (q place : ℕ) → List ℕ → After
 writeTo c image session q place bytes =
     cond (stagedView c q .external) (unchanged image session ExternalLevel)
-    (leaving (writeOutcome (stagedView c q) image place (length bytes)) image (writtenTo (stagedView c q) place bytes image) session)
+    (leaving (writeOutcome (stagedView c q) image place (length bytes)) image session
+    (finished (stagedView c q) place bytes session (writtenTo (stagedView c q) place bytes image)))
 
 -- what a call of a begun session checks first: opening's refusals, 13, 14
 abbrev pub inSession : List ℕ → Session → (Container → After) → Opened → After
@@ -150,10 +159,10 @@ commitSigned image session key signer = inSession image session (commitBy image 
 
 -- abandon: 13 alone; it does not look at the image
 pub record Abandoned : Type 0 where
-  pub outcome : Outcome
+  pub outcome : Ending
   pub session : Session
 
 unfoldable pub abandon : Session → Abandoned
 abandon session =
-    cond (session .begun) (record { outcome = outcome.Accepted; session = idle })
-    (record { outcome = outcome.Refused SessionState; session = session })
+    cond (session .begun) (record { outcome = ending.Accepted; session = idle })
+    (record { outcome = ending.Refused SessionState; session = session })

@@ -9,7 +9,6 @@ use Rattle.layout.specs.declared.Container.{Container}
 use Rattle.layout.specs.Guarantees.{Guarantees}
 use Rattle.ivfc.specs.declared.View.{View}
 use Rattle.ivfc.specs.Rules.{ViewRules}
-use Rattle.steps.specs.Sessions.{aboveVerified}
 
 -- the container of some image of n bytes: all that its places keep to is known
 pub record PlacedIn (c : Container) (n : ℕ) : Type 0 where
@@ -17,11 +16,10 @@ pub record PlacedIn (c : Container) (n : ℕ) : Type 0 where
   pub size : length image ≡ n
   pub guarantees : Guarantees image c
 
--- the blocks of a write's first and last byte, each with a verified hash block above it
+-- the blocks of a write's first and last byte
 pub record EndRules (view : View) (image : List ℕ) (place n first last : ℕ) : Type 0 where
   pub rules : ViewRules view (length image)
   pub some : 0 < n
   pub fits : place + n ≤ view .level4 .size
   pub start : first ≡ blockOf (view .level4) place
   pub stop : last ≡ lastBlock (view .level4) place n
-  pub vouched : (b : ℕ) → first ≤ b → b ≤ last → aboveVerified view image b ≡ true

@@ -11,13 +11,12 @@ use Rattle.number.specs.Bytes.{within, sameBytes}
 use Rattle.layout.specs.declared.Slot.{Slot}
 use Rattle.layout.specs.declared.Partition.{Partition}
 use Rattle.layout.specs.declared.Container.{Container}
-use Rattle.layout.specs.declared.Refusal.the-variants.{Unverified, UnverifiedAbove}
+use Rattle.layout.specs.declared.Refusal.the-variants.{Unverified}
 use Rattle.layout.specs.Headers.{headerBytes}
 use Rattle.layout.specs.Tables.{active, inactive}
 use Rattle.dpfs.specs.Staging.{begun}
 use Rattle.ivfc.specs.declared.View.{View}
-use Rattle.ivfc.specs.Blocks.{parent}
-use Rattle.ivfc.specs.Views.{levelOf, verified}
+use Rattle.ivfc.specs.Views.{verified}
 use Rattle.update.specs.Covering.{covered}
 use Rattle.views.specs.Places.{partitions, slotOf, partitionOf, treeOf}
 use Rattle.layout.specs.declared.Outcome.{Outcome}
@@ -83,18 +82,11 @@ current c image session = sameBytes (headerBytes image) (session .header) && tab
 
 -- ---- write
 
--- the block that holds the entry of block b of level 4 is verified
-unfoldable pub aboveVerified : View → List ℕ → (b : ℕ) → Bool
-aboveVerified view image b = verified view image 3 (parent (levelOf view 3) b)
-
 -- 10: a touched block that the write covers only in part is not verified
 unfoldable pub endsOutcome : View → List ℕ → (place n : ℕ) → Outcome
 endsOutcome view image place n =
     refuseLowest (λ (b : ℕ). covered (view .level4) place n b || verified view image 4 b) Unverified view place n outcome.Accepted
 
--- 9, 11, 10: the last two with the lowest block to which they apply
+-- 9, 10: the last with the lowest block to which it applies
 unfoldable pub writeOutcome : View → List ℕ → (place n : ℕ) → Outcome
-writeOutcome view image place n =
-    refuseOutside view place n
-    (refuseLowest (aboveVerified view image) UnverifiedAbove view place n
-    (endsOutcome view image place n))
+writeOutcome view image place n = refuseOutside view place n (endsOutcome view image place n)

@@ -1,5 +1,4 @@
 // What the public calls are made of: their answers, a session's value, judging, and the stores of begin, write and commit.
-use layout::Outcome;
 use layout::Refusal;
 
 pub mod answers;
@@ -22,6 +21,14 @@ pub enum Count {
     Refused(Refusal),
 }
 
+// How a call on a session ends. A refused call has changed nothing. A write that would hold a digest of all zeros is dropped, which is 17: it
+// ends its session.
+pub enum Ending {
+    Accepted,
+    Refused(Refusal),
+    Dropped,
+}
+
 // A session: idle, or begun with the 256 header bytes that it remembers.
 pub struct Session {
     pub begun: bool,
@@ -30,6 +37,6 @@ pub struct Session {
 
 // What a call on a session answers, and the session after it.
 pub struct Step {
-    pub outcome: Outcome,
+    pub outcome: Ending,
     pub session: Session,
 }

@@ -1,6 +1,7 @@
 -- What the functions of a write ask of each other, and their steps. Assumes nothing.
 use mathlib.Core.Path.{_≡_, refl, sym, ap, _∙_}
 use mathlib.Core.List.{List, [], _∷_}
+use mathlib.Core.Bool.{Bool, true, false, not}
 use Prim.Native.Nat.{ℕ, zero, suc, _+_, _-_, _*_, _≤_, _<_}
 use native.Mathlib.Omega.{arith}
 use lib.ListN.{length}
@@ -8,7 +9,8 @@ use lib.Seq.{sets}
 use Rattle.number.specs.declared.Level.{Level}
 use Rattle.number.specs.Blocks.{blocks, blockOf, lastBlock}
 use Rattle.number.proofs.FrameLaws.{keeps-refl}
-use Rattle.number.proofs.BlockLaws.{block-exists}
+use Rattle.number.proofs.Tests.{failed}
+use Rattle.number.proofs.BlockLaws.{block-exists, block-mono, touches-in}
 use Rattle.dpfs.specs.declared.Space.{Space}
 use Rattle.dpfs.specs.Free.{Free}
 use Rattle.dpfs.specs.Staging as dpfs
@@ -17,12 +19,13 @@ use Rattle.ivfc.specs.declared.View.{View}
 use Rattle.ivfc.specs.Blocks.{parent}
 use Rattle.ivfc.specs.Rows.{digests}
 use Rattle.ivfc.specs.Rules.{ViewRules}
-use Rattle.ivfc.specs.Views.{levelOf, contentOf}
+use Rattle.ivfc.specs.Views.{levelOf, contentOf, verified}
 use Rattle.ivfc.proofs.ViewLaws.{level-zero, inside-master, inside-inner, level-small}
 use Rattle.ivfc.proofs.VerifiedLaws.{entry-above}
-use Rattle.update.specs.Writing.{entered, rehashed, written}
-use Rattle.update.specs.Staged.{putLevel, writtenTo}
-use Rattle.update.specs.Rules.{StagedRules, WriteRules}
+use Rattle.update.specs.Covering.{covered}
+use Rattle.update.specs.Writing.{cleared, entered, rehashed, written, zeroHeld}
+use Rattle.update.specs.Staged.{putLevel, writtenTo, holdsZero}
+use Rattle.update.specs.Rules.{StagedRules, WriteRules, EndsRules}
 use Rattle.update.proofs.ImageLaws.{Own, master-in-table, master-keeps, inner-keeps, staged-store}
 use Rattle.update.proofs.StoreLaws.{entered-ok, entered-split, entered-at-once}
 
@@ -156,9 +159,6 @@ module _ (space : Space) (view : View) (image : List ℕ) (x : ℕ) (values : Li
   pub write-small : x + length values ≤ 0x4000000
   write-small = omega (arith, write-fits, level-small view (length image) (w .rules .rules) 4 (omega arith))
 
-  pub last-exists : 0 < length values → blockOf (levelOf view 4) (x + length values - 1) < blocks (levelOf view 4)
-  last-exists some = block-exists (levelOf view 4) (x + length values - 1) (omega (arith, write-fits))
-
 module _ (view : View) (x : ℕ) (values image : List ℕ) where
   pub write-none : length values ≡ 0 → writtenTo view x values image ≡ image
   unfolding writtenTo written
@@ -170,14 +170,89 @@ module _ (view : View) (x : ℕ) (values image : List ℕ) where
 
   pub write-some : 0 < length values
       → writtenTo view x values image
-      ≡ rehashed (levelOf view) (contentOf view) (putLevel view) 4 (blockOf (levelOf view 4) x) (blockOf (levelOf view 4) (x + length values - 1))
-      (putLevel view 4 x values image)
-  unfolding writtenTo written lastBlock
+      ≡ rehashed (levelOf view) (contentOf view) (putLevel view) 4 (blockOf (levelOf view 4) x) (lastBlock (levelOf view 4) x (length values))
+      (putLevel view 4 x values
+      (cleared (levelOf view) (contentOf view) (putLevel view) (verified view image) 4 (blockOf (levelOf view 4) x) (lastBlock (levelOf view 4) x (length values)) image))
+  unfolding writtenTo written
   write-some h = go values h
     where
       go : (l : List ℕ) → 0 < length l
           → written (levelOf view) (contentOf view) (putLevel view) 4 x l image
-          ≡ rehashed (levelOf view) (contentOf view) (putLevel view) 4 (blockOf (levelOf view 4) x) (blockOf (levelOf view 4) (x + length l - 1))
-          (putLevel view 4 x l image)
+          ≡ rehashed (levelOf view) (contentOf view) (putLevel view) 4 (blockOf (levelOf view 4) x) (lastBlock (levelOf view 4) x (length l))
+          (putLevel view 4 x l
+          (cleared (levelOf view) (contentOf view) (putLevel view) (verified view image) 4 (blockOf (levelOf view 4) x) (lastBlock (levelOf view 4) x (length l)) image))
       go [] h = absurd (omega arith)
       go (v ∷ l) h = refl
+
+-- and the digests that it holds
+module _ (view : View) (x : ℕ) (values image : List ℕ) where
+  pub none-holds : length values ≡ 0 → holdsZero view x values image ≡ false
+  unfolding holdsZero
+  none-holds e = go values e
+    where
+      go : (l : List ℕ) → length l ≡ 0 → holdsZero view x l image ≡ false
+      go [] e = refl
+      go (v ∷ l) e = absurd (omega arith)
+
+  pub some-holds : 0 < length values
+      → holdsZero view x values image
+      ≡ zeroHeld (levelOf view) (contentOf view image) 4 (blockOf (view .level4) x) (lastBlock (view .level4) x (length values))
+  unfolding holdsZero
+  some-holds h = go values h
+    where
+      go : (l : List ℕ) → 0 < length l
+          → holdsZero view x l image ≡ zeroHeld (levelOf view) (contentOf view image) 4 (blockOf (view .level4) x) (lastBlock (view .level4) x (length l))
+      go [] h = absurd (omega arith)
+      go (v ∷ l) h = refl
+
+-- ---- the blocks at a write's ends
+
+module _ (space : Space) (view : View) (image : List ℕ) (x n first last : ℕ) (w : EndsRules space view image x n first last) where
+  pub ends-fit : x + n ≤ levelOf view 4 .size
+  unfolding levelOf
+  ends-fit = w .fits
+
+  pub ends-ordered : first ≤ last
+  unfolding lastBlock
+  ends-ordered = rw (w .start, w .stop) (block-mono (view .level4) x (x + n - 1) (omega (arith, w .some)))
+
+  pub ends-exist : last < blocks (levelOf view 4)
+  unfolding lastBlock levelOf
+  ends-exist = rw (w .stop) (block-exists (view .level4) (x + n - 1) (omega (arith, w .some, w .fits)))
+
+  pub first-known : (l : Level) → l ≡ levelOf view 4 → (r : Bool) → r ≡ covered l x n first → not r ≡ true → verified view image 4 first ≡ true
+  unfolding levelOf
+  first-known l e r c h = w .judged-first (ap (λ (m : Level). covered m x n first) (sym e) ∙ failed c h)
+
+  pub last-known : (l : Level) → l ≡ levelOf view 4 → (r : Bool) → r ≡ covered l x n last → not r ≡ true → verified view image 4 last ≡ true
+  unfolding levelOf
+  last-known l e r c h = w .judged-last (ap (λ (m : Level). covered m x n last) (sym e) ∙ failed c h)
+
+module _ (space : Space) (view : View) (image : List ℕ) (x : ℕ) (values : List ℕ) (first last : ℕ) (w : EndsRules space view image x (length values) first last) where
+  -- what the steps of a write come to
+  pub write-done : (empty full end : List ℕ)
+      → empty ≡ cleared (levelOf view) (contentOf view) (putLevel view) (verified view image) 4 first last image
+      → full ≡ putLevel view 4 x values empty → end ≡ rehashed (levelOf view) (contentOf view) (putLevel view) 4 first last full
+      → end ≡ writtenTo view x values image
+  unfolding levelOf
+  write-done empty full end a b c = c ∙ rw (b, a, w .start, w .stop) (sym (write-some view x values image (w .some)))
+
+  pub held-done : (end : List ℕ) (r : Bool) → r ≡ zeroHeld (levelOf view) (contentOf view end) 4 first last → r ≡ holdsZero view x values end
+  held-done end r e = e ∙ rw (w .start, w .stop) (sym (some-holds view x values end (w .some)))
+
+pub write-ends : (space : Space) (view : View) (image : List ℕ) (x : ℕ) (values : List ℕ) → WriteRules space view image x values → 0 < length values
+    → (first last : ℕ) → first ≡ blockOf (levelOf view 4) x → last ≡ blockOf (levelOf view 4) (x + length values - 1)
+    → EndsRules space view image x (length values) first last
+unfolding levelOf lastBlock
+write-ends space view image x values w some first last f l = record {
+  rules = w .rules;
+  some = some;
+  fits = w .fits;
+  start = f;
+  stop = l;
+  judged-first = λ c. w .judged first (touches-in (view .level4) x (length values) first some (omega arith) (rw f ordered)) c;
+  judged-last = λ c. w .judged last (touches-in (view .level4) x (length values) last some (rw l ordered) (omega arith)) c;
+}
+  where
+    ordered : blockOf (view .level4) x ≤ blockOf (view .level4) (x + length values - 1)
+    ordered = block-mono (view .level4) x (x + length values - 1) (omega arith)

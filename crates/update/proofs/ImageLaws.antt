@@ -1,7 +1,7 @@
 -- A write to the staged view of an image: its level 4 is overlaid, the touched blocks are verified and the others exactly if they were, and
 -- nothing changes but the staged master hash and the free bytes of the partition. Assumes nothing.
 use mathlib.Core.Path.{_≡_, refl, sym, ap, _∙_, subst}
-use mathlib.Core.List.{List, [], _++_}
+use mathlib.Core.List.{List, [], _∷_, _++_}
 use mathlib.Core.Bool.{Bool, true, false, not, _||_}
 use mathlib.Core.Logic.{_≢_, _⊎_, inl, inr, ⊎-elim, ⊎-swap}
 use Prim.Native.Nat.{ℕ, zero, suc, _+_, _-_, _≤_, _<_}
@@ -12,7 +12,7 @@ use lib.ListN.{length, getD}
 use lib.Seq.{sets}
 use Rattle.number.specs.declared.Level.{Level}
 use Rattle.number.specs.Ranges.{Apart, levelRange}
-use Rattle.number.specs.Blocks.{blocks, touches}
+use Rattle.number.specs.Blocks.{blocks, blockOf, lastBlock, touches}
 use Rattle.number.specs.Bytes.{Outside, overlay}
 use Rattle.number.specs.Frame.{Keeps}
 use Rattle.number.proofs.ListLaws.{sets-in, sets-out, sets-append}
@@ -28,13 +28,15 @@ use Rattle.dpfs.proofs.SpareLaws.{Spares, Avoids, spares-or, free-spares, avoid
 use Rattle.dpfs.proofs.PutLaws.{put-keeps, put-staged, put-append}
 use Rattle.dpfs.proofs.SpaceLaws.{among-placed, table-avoids, tree-free, table-free, kept-content}
 use Rattle.ivfc.specs.declared.View.{View}
-use Rattle.ivfc.specs.Blocks.{parent}
 use Rattle.ivfc.specs.Views.{levelOf, contentOf, verified}
-use Rattle.ivfc.specs.Rules.{LevelsApart}
+use Rattle.ivfc.specs.Blocks.{parent}
+use Rattle.ivfc.specs.Rules.{LevelsApart, TreeRules}
 use Rattle.ivfc.proofs.ViewLaws.{content-inner, inside-inner}
-use Rattle.update.specs.Staged.{putLevel, writtenTo}
+use Rattle.update.specs.Writing.{zeroHeld, Held}
+use Rattle.update.specs.Staged.{putLevel, writtenTo, plainlyWritten, holdsZero}
 use Rattle.update.specs.Rules.{StagedRules, WriteRules}
 use Rattle.update.proofs.StoreLaws.{Store}
+use Rattle.update.proofs.PlainLaws.{written-plain}
 use Rattle.update.proofs.WriteLaws.{Written, written-is}
 
 -- ---- the levels of a staged view inside DPFS level 3
@@ -73,12 +75,12 @@ outside-shift a x n y (inr p) = inr (omega arith)
 -- ---- a run behind a run is put as one
 
 -- in a level; of none nothing changes
-level-none : (view : View) (i x : ℕ) (image : List ℕ) → putLevel view i x [] image ≡ image
+pub level-none : (view : View) (i x : ℕ) (image : List ℕ) → putLevel view i x [] image ≡ image
 unfolding putLevel dpfs.put
 level-none view zero x image = refl
 level-none view (suc i) x image = refl
 
-level-append : (view : View) (i x : ℕ) (before rest image : List ℕ)
+pub level-append : (view : View) (i x : ℕ) (before rest image : List ℕ)
     → putLevel view i x (before ++ rest) image ≡ putLevel view i (x + length before) rest (putLevel view i x before image)
 unfolding putLevel
 level-append view zero x before rest image =
@@ -242,8 +244,21 @@ module _ (space : Space) (view : View) (n : ℕ) (r : StagedRules space view n) 
 
 -- ---- the write
 
-module _ (space : Space) (view : View) (image : List ℕ) (x : ℕ) (values : List ℕ) (w : WriteRules space view image x values)
-    (vouched : (b : ℕ) → touches (view .level4) x (length values) b ≡ true → verified view image 3 (parent (view .level3) b) ≡ true) where
+none-held : (view : View) (x : ℕ) (values image : List ℕ) → holdsZero view x values image ≡ false → 0 < length values
+    → zeroHeld (levelOf view) (contentOf view image) 4 (blockOf (view .level4) x) (lastBlock (view .level4) x (length values)) ≡ false
+unfolding holdsZero
+none-held view x [] image z h = absurd (omega arith)
+none-held view x (v ∷ l) image z h = z
+
+-- where the blocks that hold the entries of the touched blocks are verified, no hash block is rebuilt
+pub write-plain : (view : View) → TreeRules (levelOf view) → (image : List ℕ) (x : ℕ) (values : List ℕ) → 0 < length values
+    → ((b : ℕ) → touches (view .level4) x (length values) b ≡ true → verified view image 3 (parent (view .level3) b) ≡ true)
+    → writtenTo view x values image ≡ plainlyWritten view x values image
+unfolding writtenTo plainlyWritten levelOf
+write-plain view rules image x [] h v = absurd (omega arith)
+write-plain view rules image x (value ∷ values) h v = written-plain (levelOf view) rules (contentOf view) (putLevel view) image 3 x value values (omega arith) v
+
+module _ (space : Space) (view : View) (image : List ℕ) (x : ℕ) (values : List ℕ) (w : WriteRules space view image x values) where
   abbrev after : List ℕ
   after = writtenTo view x values image
 
@@ -251,7 +266,7 @@ module _ (space : Space) (view : View) (image : List ℕ) (x : ℕ) (values : Li
   unfolding writtenTo levelOf
   is-written =
       written-is (w .rules .rules .hash) (staged-store space view (length image) (w .rules) image refl) 3 x values image
-      (keeps-refl (Own view image) image) (omega arith) (w .fits) vouched
+      (keeps-refl (Own view image) image) (omega arith) (w .fits)
 
   -- nothing but the write's own bytes changes, and these are free
   pub write-own : Keeps (Own view image) image after
@@ -265,10 +280,16 @@ module _ (space : Space) (view : View) (image : List ℕ) (x : ℕ) (values : Li
   unfolding levelOf
   write-bytes = is-written .bytes-now
 
-  -- a block is verified exactly if it is touched or was verified
-  pub write-verified : (b : ℕ) → b < blocks (view .level4) → verified view after 4 b ≡ (touches (view .level4) x (length values) b || verified view image 4 b)
+  -- if no digest that it holds is all zero, a block is verified exactly if it is touched or was verified
+  pub write-verified : holdsZero view x values after ≡ false
+      → (b : ℕ) → b < blocks (view .level4) → verified view after 4 b ≡ (touches (view .level4) x (length values) b || verified view image 4 b)
   unfolding levelOf
-  write-verified = is-written .verified-now
+  write-verified z = is-written .verified-now (none-held view x values after z)
+
+  -- the entries above the written blocks are their digests, whatever these are
+  pub write-held : 0 < length values → Held (levelOf view) (contentOf view after) 4 (blockOf (view .level4) x) (lastBlock (view .level4) x (length values))
+  unfolding levelOf
+  write-held = is-written .held-now
 
   -- the live content of each tree stays
   pub write-live : (tree : Tree) → Among tree space → (z : ℕ) → z < tree .level3 .size → content tree after (tree .live) z ≡ content tree image (tree .live) z

@@ -1,59 +1,32 @@
--- The numbers that refusals 10 and 11 of a write carry. Assumes nothing.
+-- The number that refusal 10 of a write carries. Assumes nothing.
 use mathlib.Core.Path.{_≡_, refl, ap, _∙_}
-use mathlib.Core.Bool.{Bool, true, false, cond, _||_}
-use mathlib.Core.List.{List}
+use mathlib.Core.Bool.{Bool, true, false, cond, _&&_, _||_}
 use mathlib.Core.Logic.{_↔_}
-use Prim.Native.Nat.{ℕ, suc, _+_, _-_, _*_, _≤_, _<_, min, max}
+use Prim.Native.Nat.{ℕ, suc, _+_, _-_, _*_, _≤_, _<_}
 use native.Mathlib.Omega.{arith}
 use native.Mathlib.Decide.{ℕ-discrete}
 use lib.Dec.{leb}
 use borrow.Author.Tests.{le-leb, leb-true}
 use Rattle.number.specs.declared.Level.{Level}
-use Rattle.number.specs.Blocks.{blockSize, blocks, blockOf, blockLength, lastBlock, touches}
+use Rattle.number.specs.Blocks.{blockSize, blocks, blockOf, blockLength, lastBlock}
 use Rattle.number.proofs.Tests.{and-left, and-right, and-both}
-use Rattle.number.proofs.BlockLaws.{block-below, block-starts, block-ends, block-mono, block-byte, block-length-pos, exists-byte, touches-is}
-use Rattle.ivfc.specs.declared.View.{View}
-use Rattle.ivfc.specs.Blocks.{parent, child}
+use Rattle.number.proofs.BlockLaws.{block-below, block-starts, block-ends, block-mono, block-byte, block-length-pos, block-inside, exists-byte}
 use Rattle.ivfc.specs.Verified.{firstNot}
-use Rattle.ivfc.specs.Views.{levelOf, verified}
-use Rattle.ivfc.specs.Rules.{TreeRules}
-use Rattle.ivfc.proofs.EntryLaws.{parent-mono}
-use Rattle.ivfc.proofs.LowestLaws.{Lowest, first-lowest, lowest-one, lowest-under}
+use Rattle.ivfc.proofs.LowestLaws.{Lowest, first-lowest, lowest-one}
 use Rattle.update.specs.Covering.{covered}
 
--- ---- refusal 11: a hash block above a touched block is not verified
+-- ---- a covered block
 
--- the level 3 block above block b of level 4 is verified
-abbrev pub aboveVerified : View → List ℕ → (b : ℕ) → Bool
-aboveVerified view image b = verified view image 3 (parent (levelOf view 3) b)
+module _ (l : Level) (b unit : ℕ) (e : unit ≡ blockSize l) (exists : b < blocks l) where
+  pub start-inside : b * unit < l .size
+  start-inside = rw e (exists-byte l b exists)
 
--- the first level 3 block above the blocks first .. last that is not verified, or past the last
-abbrev pub hashBlock : View → List ℕ → (first last : ℕ) → ℕ
-hashBlock view image first last =
-    firstNot (verified view image 3) (parent (levelOf view 3) first) (suc (parent (levelOf view 3) last) - parent (levelOf view 3) first)
+  pub stop-inside : (n : ℕ) → n ≡ blockLength l b → b * unit + n ≤ l .size
+  stop-inside n f = rw (e, f) (block-inside l b (omega (arith, exists-byte l b exists)))
 
--- so the level 3 blocks are searched, and not those below them
-module _ (view : View) (image : List ℕ) (rules : TreeRules (levelOf view)) (first last : ℕ) (ordered : first ≤ last) where
-  abbrev p : ℕ
-  p = hashBlock view image first last
-
-  logs : 5 ≤ levelOf view 3 .log
-  logs = rules .logs 3 (omega arith) .0
-
-  pub above-lowest : firstNot (aboveVerified view image) first (suc last - first) ≡ min (suc last) (max first (child (levelOf view 3) (hashBlock view image first last)))
-  above-lowest =
-      lowest-one (aboveVerified view image) first last _ _ (first-lowest (aboveVerified view image) first last ordered)
-      (lowest-under (levelOf view 3) logs (verified view image 3) first last p ordered
-      (first-lowest (verified view image 3) (parent (levelOf view 3) first) (parent (levelOf view 3) last) (parent-mono (levelOf view 3) first last ordered)))
-
--- then a write may go on: what its laws ask of each touched block
-pub touched-vouched : (view : View) (image : List ℕ) (x n : ℕ)
-    → ((b : ℕ) → blockOf (levelOf view 4) x ≤ b → b ≤ lastBlock (levelOf view 4) x n → aboveVerified view image b ≡ true)
-    → (b : ℕ) → touches (view .level4) x n b ≡ true → verified view image 3 (parent (view .level3) b) ≡ true
-unfolding levelOf
-touched-vouched view image x n h b e =
-    let (some, f, l) = touches-is (view .level4) x n b e in
-    h b f l
+  pub covers-is : (place n size : ℕ) → size ≡ blockLength l b → (leb place (b * unit) && leb (b * unit + size) (place + n)) ≡ covered l place n b
+  unfolding covered
+  covers-is place n size f = rw (e, f)
 
 -- ---- refusal 10: only the first and the last touched block can be covered in part
 

@@ -1,13 +1,16 @@
 -- What a write asks of the image's space and of the staged view; those of an image that opens keep to it.
 use mathlib.Core.Path.{_≡_}
 use mathlib.Core.List.{List}
-use mathlib.Core.Bool.{false, not}
-use Prim.Native.Nat.{ℕ, _+_, _≤_}
+use mathlib.Core.Bool.{true, false, not}
+use Prim.Native.Nat.{ℕ, _+_, _≤_, _<_}
 use lib.ListN.{length}
+use Rattle.number.specs.Blocks.{blockOf, lastBlock, touches}
 use Rattle.dpfs.specs.declared.Space.{Space}
 use Rattle.dpfs.specs.Rules.{SpaceRules, Among}
 use Rattle.ivfc.specs.declared.View.{View}
 use Rattle.ivfc.specs.Rules.{ViewRules, LevelsApart}
+use Rattle.ivfc.specs.Views.{verified}
+use Rattle.update.specs.Covering.{covered}
 
 -- the staged view of a partition with internal level 4, in an image of n bytes: its master hash stands in the inactive table
 pub record StagedRules (space : Space) (view : View) (n : ℕ) : Type 0 where
@@ -20,7 +23,19 @@ pub record StagedRules (space : Space) (view : View) (n : ℕ) : Type 0 where
   pub master-from : space .table .offset ≤ view .master .offset
   pub master-to : view .master .offset + view .master .size ≤ space .table .offset + space .table .size
 
--- bytes written to its level 4 from x on
+-- bytes written to its level 4 from x on: each block that they touch is covered in full, or verified
 pub record WriteRules (space : Space) (view : View) (image : List ℕ) (x : ℕ) (values : List ℕ) : Type 0 where
   pub rules : StagedRules space view (length image)
   pub fits : x + length values ≤ view .level4 .size
+  pub judged : (b : ℕ) → touches (view .level4) x (length values) b ≡ true → covered (view .level4) x (length values) b ≡ false
+      → verified view image 4 b ≡ true
+
+-- n bytes, at least one, of which `first` and `last` are the blocks of the first and the last: each of the two is covered in full, or verified
+pub record EndsRules (space : Space) (view : View) (image : List ℕ) (x n first last : ℕ) : Type 0 where
+  pub rules : StagedRules space view (length image)
+  pub some : 0 < n
+  pub fits : x + n ≤ view .level4 .size
+  pub start : first ≡ blockOf (view .level4) x
+  pub stop : last ≡ lastBlock (view .level4) x n
+  pub judged-first : covered (view .level4) x n first ≡ false → verified view image 4 first ≡ true
+  pub judged-last : covered (view .level4) x n last ≡ false → verified view image 4 last ≡ true

@@ -1,11 +1,14 @@
 -- A write to the staged view of an image.
-use mathlib.Core.List.{List}
+use mathlib.Core.List.{List, [], _∷_}
+use mathlib.Core.Bool.{Bool, false}
 use Prim.Native.Nat.{ℕ, zero, suc, _+_}
+use lib.ListN.{length}
 use lib.Seq.{sets}
+use Rattle.number.specs.Blocks.{blockOf, lastBlock}
 use Rattle.dpfs.specs.Staging as dpfs
 use Rattle.ivfc.specs.declared.View.{View}
 use Rattle.ivfc.specs.Views.{levelOf, contentOf}
-use Rattle.update.specs.Writing.{written}
+use Rattle.update.specs.Writing.{rehashed, written, zeroHeld}
 
 -- bytes put into a level of the view: into the master hash at its place of the inactive table, else into the staged DPFS level 3
 unfoldable pub putLevel : View → (i x : ℕ) → List ℕ → List ℕ → List ℕ
@@ -15,3 +18,16 @@ putLevel view (suc i) x values image = dpfs.put (view .tree) (levelOf view (suc 
 -- the image after bytes are written to level 4 of the view from x on
 unfoldable pub writtenTo : View → (x : ℕ) → List ℕ → List ℕ → List ℕ
 writtenTo view x values image = written (levelOf view) (contentOf view) (putLevel view) 4 x values image
+
+-- where no hash block is rebuilt this is: the bytes put, and the entries above them brought up to date
+unfoldable pub plainlyWritten : View → (x : ℕ) → List ℕ → List ℕ → List ℕ
+plainlyWritten view x values image =
+    rehashed (levelOf view) (contentOf view) (putLevel view) 4 (blockOf (view .level4) x) (lastBlock (view .level4) x (length values))
+    (putLevel view 4 x values image)
+
+-- an image that holds these bytes, written to level 4 of the view from x on, holds a digest of theirs that is all zero: of a written block or
+-- of a hash block above one
+unfoldable pub holdsZero : View → (x : ℕ) → List ℕ → List ℕ → Bool
+holdsZero view x [] image = false
+holdsZero view x (value ∷ values) image =
+    zeroHeld (levelOf view) (contentOf view image) 4 (blockOf (view .level4) x) (lastBlock (view .level4) x (length (value ∷ values)))

@@ -1,4 +1,6 @@
-// The stores of a write: data, then the entries above it, level by level up to the master hash.
+// The stores of a write: hash blocks above it that are not verified are emptied, then come the data, then the entries above it, level by level
+// up to the master hash.
+use clearing::clear_for;
 use dpfs::Space;
 use dpfs::staging::put_bytes;
 use dpfs::staging::store_bytes;
@@ -8,14 +10,19 @@ use ivfc::gathering::level_of;
 use ivfc::hashing::digests_from;
 use ivfc::verifying::parent_of;
 use number::blocks::block_of;
+use zeros::zero_held;
+
+pub mod clearing;
+pub mod zeros;
+
 ghost use mathlib.Core.Path.{_≡_};
 ghost use Prim.Native.Nat.{ℕ, suc, _+_, _-_, _*_, _≤_, _<_};
 ghost use lib.ListN.{length};
 ghost use Rattle.number.specs.Blocks.{blocks};
 ghost use Rattle.ivfc.specs.Views.{levelOf, contentOf};
 ghost use Rattle.update.specs.Writing.{entered, rehashed};
-ghost use Rattle.update.specs.Staged.{putLevel, writtenTo};
-ghost use Rattle.update.specs.Rules.{StagedRules, WriteRules};
+ghost use Rattle.update.specs.Staged.{putLevel, writtenTo, holdsZero};
+ghost use Rattle.update.specs.Rules.{StagedRules, WriteRules, EndsRules};
 
 // Puts bytes into a level of the staged view: into the master hash at its place of the inactive table, else into the staged DPFS level 3.
 fn put_level(space: Space, view: View, image: &mut [u8], i: u64, x: u64, values: &[u8])
@@ -79,22 +86,45 @@ fn rehash(space: Space, view: View, image: &mut [u8], i: u64, first: u64, last: 
     }
 }
 
-// Writes bytes to level 4 of the staged view from x on; of none nothing changes.
-pub fn write_level4(space: Space, view: View, image: &mut [u8], x: u64, values: &[u8])
-    requires { ⌜ WriteRules space view (now image) x (now values) ⌝ }
-    ensures { λ _. ⌜ now (image .exit) ≡ writtenTo view x (now (values .entry)) (now (image .entry)) ⌝ }
+// Writes some bytes to level 4 of the staged view from x on, where `first` and `last` are the blocks of the first and the last of them, and
+// says whether a digest that the finished write holds is all zero.
+fn write_blocks(
+    space: Space,
+    view: View,
+    image: &mut [u8],
+    x: u64,
+    values: &[u8],
+    first: u64,
+    last: u64,
+) -> bool
+    requires { ⌜ EndsRules space view (now image) x (length (now values)) first last ⌝ }
+    ensures { λ r. ⌜ (now (image .exit) ≡ writtenTo view x (now (values .entry)) (now (image .entry))) × (r ≡ holdsZero view x (now (values .entry)) (now (image .exit))) ⌝ }
 {
-    if 0 < values.len() {
-        let level = level_of(view, 4);
-        let end = x + values.len() as u64;
-        put_level(space, view, image, 4, x, values);
-        rehash(
-            space,
-            view,
-            image,
-            4,
-            block_of(level, x),
-            block_of(level, end - 1),
-        );
+    let n = values.len() as u64;
+    clear_for(space, view, image, x, n, first, last);
+    put_level(space, view, image, 4, x, values);
+    rehash(space, view, image, 4, first, last);
+    zero_held(view, image, 4, first, last)
+}
+
+// Writes bytes to level 4 of the staged view from x on, and says whether a digest that the finished write holds is all zero. Of no bytes
+// nothing changes.
+pub fn write_level4(space: Space, view: View, image: &mut [u8], x: u64, values: &[u8]) -> bool
+    requires { ⌜ WriteRules space view (now image) x (now values) ⌝ }
+    ensures { λ r. ⌜ (now (image .exit) ≡ writtenTo view x (now (values .entry)) (now (image .entry))) × (r ≡ holdsZero view x (now (values .entry)) (now (image .exit))) ⌝ }
+{
+    if values.len() == 0 {
+        return false;
     }
+    let level = level_of(view, 4);
+    let end = x + values.len() as u64;
+    write_blocks(
+        space,
+        view,
+        image,
+        x,
+        values,
+        block_of(level, x),
+        block_of(level, end - 1),
+    )
 }

@@ -15,14 +15,14 @@ begin-requires c κs = search needs
 session-left-requires : tie.Need-session-left-requires
 session-left-requires c κs = search needs
 
-outcome-answer-requires : tie.Need-outcome-answer-requires
-outcome-answer-requires c κs = search needs
+ending-answer-requires : tie.Need-ending-answer-requires
+ending-answer-requires c κs = search needs
 
 same-length : tie.Need-same-length
 same-length c = search needs
 
 returns : tie.Need-returns
-returns c = called (calls.begin (now (c .before .before .before .before .before .before .before .before .before .args .image))) (c .before .before .before .before .before .session-of .ensures) (c .before .before .before .before .begin .ensures) (c .before .session-left .ensures) (c .outcome-answer .ensures)
+returns c = called (calls.begin (now (c .before .before .before .before .before .before .before .before .before .args .image))) (c .before .before .before .before .before .session-of .ensures) (c .before .before .before .before .begin .ensures) (c .before .session-left .ensures) (c .ending-answer .ensures)
 
 pub teplovist-begin-spec : {M : Type 1} → statement M
 teplovist-begin-spec =
@@ -31,6 +31,6 @@ teplovist-begin-spec =
     session-of-requires
     begin-requires
     session-left-requires
-    outcome-answer-requires
+    ending-answer-requires
     same-length
     returns)

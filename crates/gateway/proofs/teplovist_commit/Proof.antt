@@ -15,14 +15,14 @@ commit-requires c κs = search needs
 session-left-requires : tie.Need-session-left-requires
 session-left-requires c κs = search needs
 
-outcome-answer-requires : tie.Need-outcome-answer-requires
-outcome-answer-requires c κs = search needs
+ending-answer-requires : tie.Need-ending-answer-requires
+ending-answer-requires c κs = search needs
 
 same-length : tie.Need-same-length
 same-length c = search needs
 
 returns : tie.Need-returns
-returns c = called (calls.commit (now (c .before .before .before .before .before .before .before .before .before .args .image))) (c .before .before .before .before .before .session-of .ensures) (c .before .before .before .before .commit .ensures) (c .before .session-left .ensures) (c .outcome-answer .ensures)
+returns c = called (calls.commit (now (c .before .before .before .before .before .before .before .before .before .args .image))) (c .before .before .before .before .before .session-of .ensures) (c .before .before .before .before .commit .ensures) (c .before .session-left .ensures) (c .ending-answer .ensures)
 
 pub teplovist-commit-spec : {M : Type 1} → statement M
 teplovist-commit-spec =
@@ -31,6 +31,6 @@ teplovist-commit-spec =
     session-of-requires
     commit-requires
     session-left-requires
-    outcome-answer-requires
+    ending-answer-requires
     same-length
     returns)

@@ -20,14 +20,14 @@ commit-signed-requires c κs = search needs
 session-left-requires : tie.Need-session-left-requires
 session-left-requires c κs = search needs
 
-outcome-answer-requires : tie.Need-outcome-answer-requires
-outcome-answer-requires c κs = search needs
+ending-answer-requires : tie.Need-ending-answer-requires
+ending-answer-requires c κs = search needs
 
 same-length : tie.Need-same-length
 same-length c = search needs
 
 returns : tie.Need-returns
-returns c = called-by (λ (s : Session) (signer : Signer). calls.commitSigned (now (c .before .before .before .before .before .before .before .before .before .before .before .before .args .image)) s (now (c .before .before .before .before .before .before .before .before .before .before .before .before .args .key)) signer) (c .before .before .before .before .before .before .session-of .ensures) (c .before .before .before .before .before .signer-of .ensures) (c .before .before .before .before .commit-signed .ensures) (c .before .session-left .ensures) (c .outcome-answer .ensures)
+returns c = called-by (λ (s : Session) (signer : Signer). calls.commitSigned (now (c .before .before .before .before .before .before .before .before .before .before .before .before .args .image)) s (now (c .before .before .before .before .before .before .before .before .before .before .before .before .args .key)) signer) (c .before .before .before .before .before .before .session-of .ensures) (c .before .before .before .before .before .signer-of .ensures) (c .before .before .before .before .commit-signed .ensures) (c .before .session-left .ensures) (c .ending-answer .ensures)
 
 pub teplovist-commit-signed-spec : {M : Type 1} → statement M
 teplovist-commit-signed-spec =
@@ -37,6 +37,6 @@ teplovist-commit-signed-spec =
     signer-of-requires
     commit-signed-requires
     session-left-requires
-    outcome-answer-requires
+    ending-answer-requires
     same-length
     returns)

@@ -1,7 +1,6 @@
 -- The call's contract, through the answer's number and the session's bytes.
-use mathlib.Core.Path.{_∙_}
 use denote.Ref.{now}
-use Rattle.gateway.proofs.CallLaws.{answered}
+use Rattle.gateway.proofs.CallLaws.{called}
 use Rattle.steps.specs.Calls as calls
 use borrow.Author.Needs.{needs}
 use Rattle.gateway.proofs.teplovist_write.Statement.{statement}
@@ -13,19 +12,25 @@ session-of-requires c κs = search needs
 write-requires : tie.Need-write-requires
 write-requires c κs = search needs
 
-outcome-answer-requires : tie.Need-outcome-answer-requires
-outcome-answer-requires c κs = search needs
+write-left-requires : tie.Need-write-left-requires
+write-left-requires c κs = search needs
+
+ending-answer-requires : tie.Need-ending-answer-requires
+ending-answer-requires c κs = search needs
 
 same-length : tie.Need-same-length
 same-length c = search needs
 
 returns : tie.Need-returns
-returns c = (
-  answered (c .outcome-answer .ensures) (c .before .before .before .write .ensures .outcome ∙ λ i. calls.write (now (c .before .before .before .before .before .before .before .before .before .args .image)) (c .before .before .before .before .session-of .ensures i) (c .before .before .before .before .before .before .before .before .before .args .partition) (c .before .before .before .before .before .before .before .before .before .args .place) (now (c .before .before .before .before .before .before .before .before .before .args .bytes)) .outcome),
-  c .before .before .before .write .ensures .stored ∙ λ i. calls.write (now (c .before .before .before .before .before .before .before .before .before .args .image)) (c .before .before .before .before .session-of .ensures i) (c .before .before .before .before .before .before .before .before .before .args .partition) (c .before .before .before .before .before .before .before .before .before .args .place) (now (c .before .before .before .before .before .before .before .before .before .args .bytes)) .image,
-)
+returns c = called (λ s. calls.write (now (c .before .before .before .before .before .before .before .before .before .before .args .image)) s (c .before .before .before .before .before .before .before .before .before .before .args .partition) (c .before .before .before .before .before .before .before .before .before .before .args .place) (now (c .before .before .before .before .before .before .before .before .before .before .args .bytes))) (c .before .before .before .before .before .session-of .ensures) (c .before .before .before .before .write .ensures) (c .before .write-left .ensures) (c .ending-answer .ensures)
 
 pub teplovist-write-spec : {M : Type 1} → statement M
 teplovist-write-spec =
     tie.close
-    (tie.spec session-of-requires write-requires outcome-answer-requires same-length returns)
+    (tie.spec
+    session-of-requires
+    write-requires
+    write-left-requires
+    ending-answer-requires
+    same-length
+    returns)

@@ -1,9 +1,9 @@
 -- `container::sessions::commit_signed` meets its contract. Assumes nothing.
-use mathlib.Core.Path.{refl}
-use Rattle.steps.proofs.SessionLaws.{guaranteed, session-unopened, session-idle, session-stale, session-goes-on, signer-unfit, signed-done}
-use Rattle.steps.specs.Calls.{commitSigned}
-use borrow.Author.Tests.{not-true, not-false}
 use Rattle.number.proofs.Tests.{failed, passed}
+use borrow.Author.Tests.{not-true, not-false}
+use Rattle.steps.specs.Calls.{commitSigned}
+use Rattle.steps.proofs.SessionLaws.{guaranteed, session-unopened, session-idle, session-stale, session-goes-on, signer-unfit, signed-done}
+use mathlib.Core.Path.{refl}
 use borrow.Author.Needs.{needs}
 use Rattle.container.proofs.sessions.commit_signed.Statement.{statement}
 use Rattle.container.proofs.sessions.commit_signed.Tie as tie
@@ -56,18 +56,14 @@ returns-3 c = session-stale _ _ (c .before .before .before .before .before .befo
 judge-signer-requires : tie.Need-judge-signer-requires
 judge-signer-requires c κs = search needs
 
+enum-known-refusal : tie.Need-enum-known-refusal
+enum-known-refusal c = search needs
+
+refused-requires-4 : tie.Need-refused-requires-4
+refused-requires-4 c κs = search needs
+
 enum-told-2 : tie.Need-enum-told-2
 enum-told-2 c = search needs
-
-enum-told-3 : tie.Need-enum-told-3
-enum-told-3 c = search needs
-
-same-length-4 : tie.Need-same-length-4
-same-length-4 c = search needs
-
-returns-4 : tie.Need-returns-4
-unfolding commitSigned
-returns-4 c = session-goes-on _ _ (c .before .before .before .before .before .before .before .before .before .before .before .before .«open» .ensures) _ _ (c .before .before .before .before .before .before .before .before .before .before .answer .given .1) _ (not-false _ (c .before .before .before .before .before .before .before .if1 .left)) (passed (c .before .before .before .before .before .is-current .ensures) (c .before .before .before .before .if2 .left)) _ _ (signer-unfit _ _ _ _ _ _ (c .before .before .judge-signer .ensures) _ (c .enum-told3 .given .1) _ (c .enum-told3 .given .1, refl))
 
 switch-signed-requires : tie.Need-switch-signed-requires
 switch-signed-requires c κs = guaranteed _ _ (c .before .before .before .before .before .before .before .before .before .before .before .before .before .«open» .ensures) (c .before .before .before .before .before .before .before .before .before .before .before .before .before .before .before .before .args .session) _ (c .before .before .before .before .before .before .before .before .before .before .before .answer .given .1)
@@ -75,12 +71,23 @@ switch-signed-requires c κs = guaranteed _ _ (c .before .before .before .before
 new-requires : tie.Need-new-requires
 new-requires c κs = search needs
 
+same-length-4 : tie.Need-same-length-4
+same-length-4 c = search needs
+
+returns-4 : tie.Need-returns-4
+unfolding commitSigned
+returns-4 c =
+    session-goes-on _ _ (c .before .before .before .before .before .before .before .before .before .before .before .before .before .before .«open» .ensures) _ _ (c .before .before .before .before .before .before .before .before .before .before .before .before .answer .given .1) _ (not-false _ (c .before .before .before .before .before .before .before .before .before .if1 .left)) (passed (c .before .before .before .before .before .before .before .is-current .ensures) (c .before .before .before .before .before .before .if2 .left)) _ _
+    (signer-unfit _ _ _ _ _ _ (c .before .before .before .before .judge-signer .ensures) _ (c .before .before .refusal .given .1) _ (c .refused4 .ensures))
+
 same-length-5 : tie.Need-same-length-5
 same-length-5 c = search needs
 
 returns-5 : tie.Need-returns-5
 unfolding commitSigned
-returns-5 c = session-goes-on _ _ (c .before .before .before .before .before .before .before .before .before .before .before .before .before .before .before .before .before .«open» .ensures) _ _ (c .before .before .before .before .before .before .before .before .before .before .before .before .before .before .before .answer .given .1) _ (not-false _ (c .before .before .before .before .before .before .before .before .before .before .before .before .if1 .left)) (passed (c .before .before .before .before .before .before .before .before .before .before .is-current .ensures) (c .before .before .before .before .before .before .before .before .before .if2 .left)) _ _ (signed-done _ _ _ _ _ _ (c .before .before .before .before .before .before .before .judge-signer .ensures) (c .before .before .before .before .before .enum-told2 .given .1) _ _ (c .new .ensures) (c .before .before .before .switch-signed .ensures))
+returns-5 c =
+    session-goes-on _ _ (c .before .before .before .before .before .before .before .before .before .before .before .before .before .before .before .before .before .«open» .ensures) _ _ (c .before .before .before .before .before .before .before .before .before .before .before .before .before .before .before .answer .given .1) _ (not-false _ (c .before .before .before .before .before .before .before .before .before .before .before .before .if1 .left)) (passed (c .before .before .before .before .before .before .before .before .before .before .is-current .ensures) (c .before .before .before .before .before .before .before .before .before .if2 .left)) _ _
+    (signed-done _ _ _ _ _ _ (c .before .before .before .before .before .before .before .judge-signer .ensures) (c .before .before .before .before .before .enum-told2 .given .1) _ _ (c .new .ensures) (c .before .before .before .switch-signed .ensures))
 
 pub commit-signed-spec : {M : Type 1} → statement M
 commit-signed-spec =
@@ -101,11 +108,12 @@ commit-signed-spec =
     same-length-3
     returns-3
     judge-signer-requires
+    enum-known-refusal
+    refused-requires-4
     enum-told-2
-    enum-told-3
-    same-length-4
-    returns-4
     switch-signed-requires
     new-requires
+    same-length-4
+    returns-4
     same-length-5
     returns-5)

@@ -1,28 +1,94 @@
-use mathlib.Core.Path.{_∙_}
+-- `judge_ends` asks of the blocks at the ends that are covered in part. Assumes nothing.
+use mathlib.Core.Path.{_≡_, sym, _∙_}
+use Prim.Native.Nat.{ℕ, _+_, _≤_, _<_, _^_}
+use native.Mathlib.Omega.{arith}
+use lib.ListN.{length}
+use borrow.Author.Needs.{needs}
 use borrow.Author.Tests.{not-true, not-false}
-use Rattle.steps.proofs.JudgeLaws.{ends-exist, first-passes, last-passes, one-passes, refuse-first, refuse-last, refuse-none}
+use Rattle.number.specs.Blocks.{blocks}
+use Rattle.ivfc.specs.Views.{levelOf}
+use Rattle.steps.proofs.ReadLaws.{size4-small}
+use Rattle.steps.proofs.JudgeLaws.{log4-most, ends-exist, ends-exist-both, ends-covered, ends-lower, ends-upper, ends-none}
 use Rattle.steps.proofs.judging.judge_ends.Statement.{statement}
 use Rattle.steps.proofs.judging.judge_ends.Tie as tie
 
-end-allowed-requires : tie.Need-end-allowed-requires
-end-allowed-requires c κs = (c .before .pre .rules, ends-exist (c .before .args .view) (c .before .args .image .now) (c .before .args .place) (c .before .args .n) (c .before .args .first) (c .before .args .last) (c .before .pre) .0, c .before .pre .fits)
+covers-requires : tie.Need-covers-requires
+covers-requires c κs =
+    let s = c .before in
+    let a = s .args in
+    let n = length (a .image .now) in (
+      log4-most (a .view) n (s .pre .rules),
+      size4-small (a .view) n (s .pre .rules),
+      ends-exist (a .view) (a .image .now) (a .place) (a .n) (a .first) (a .last) (s .pre) .0,
+      omega (arith, s .pre .fits, size4-small (a .view) n (s .pre .rules)),
+    )
+
+covers-requires-2 : tie.Need-covers-requires-2
+covers-requires-2 c κs =
+    let s = c .before .before in
+    let a = s .args in
+    let n = length (a .image .now) in (
+      log4-most (a .view) n (s .pre .rules),
+      size4-small (a .view) n (s .pre .rules),
+      ends-exist (a .view) (a .image .now) (a .place) (a .n) (a .first) (a .last) (s .pre) .1,
+      omega (arith, s .pre .fits, size4-small (a .view) n (s .pre .rules)),
+    )
 
 returns : tie.Need-returns
-returns c = refuse-first (c .before .before .before .args .view) (c .before .before .before .args .image .now) (c .before .before .before .args .place) (c .before .before .before .args .n) (c .before .before .before .args .first) (c .before .before .before .args .last) (c .before .before .before .pre) (first-passes (c .before .before .before .args .view) (c .before .before .before .args .image .now) (c .before .before .before .args .place) (c .before .before .before .args .n) (c .before .before .before .args .first) (c .before .before .before .args .last) (c .before .before .before .pre) (c .before .end-allowed .result) (c .before .end-allowed .ensures) ∙ not-true (c .before .end-allowed .result) (c .if1 .taken))
+returns c =
+    let s = c .before .before .before .before in
+    let a = s .args in
+    ends-covered (a .view) (a .image .now) (a .place) (a .n) (a .first) (a .last) (s .pre) _ _ (c .before .before .covers .ensures) (c .before .covers2 .ensures) (c .if1 .taken)
+
+choose-requires : tie.Need-choose-requires
+choose-requires c κs = search needs
+
+choose-requires-2 : tie.Need-choose-requires-2
+choose-requires-2 c κs = search needs
+
+judge-two-requires : tie.Need-judge-two-requires
+unfolding levelOf
+judge-two-requires c κs =
+    let s = c .before .before .before .before .before .before in
+    let a = s .args in
+    let e = ends-exist-both (a .view) (a .image .now) (a .place) (a .n) (a .first) (a .last) (s .pre) _ _ (c .before .before .before .before .covers .ensures) (c .before .before .before .covers2 .ensures)
+    (c .before .before .if1 .left) (c .before .choose .result) (c .choose2 .result) (c .before .choose .ensures) (c .choose2 .ensures) in
+    (s .pre .rules, omega arith, e .0, e .1)
 
 returns-2 : tie.Need-returns-2
-returns-2 c = refuse-none (c .before .before .before .before .args .view) (c .before .before .before .before .args .image .now) (c .before .before .before .before .args .place) (c .before .before .before .before .args .n) (c .before .before .before .before .args .first) (c .before .before .before .before .args .last) (c .before .before .before .before .pre) (first-passes (c .before .before .before .before .args .view) (c .before .before .before .before .args .image .now) (c .before .before .before .before .args .place) (c .before .before .before .before .args .n) (c .before .before .before .before .args .first) (c .before .before .before .before .args .last) (c .before .before .before .before .pre) (c .before .before .end-allowed .result) (c .before .before .end-allowed .ensures) ∙ not-false (c .before .before .end-allowed .result) (c .before .if1 .left)) (one-passes (c .before .before .before .before .args .view) (c .before .before .before .before .args .image .now) (c .before .before .before .before .args .place) (c .before .before .before .before .args .n) (c .before .before .before .before .args .first) (c .before .before .before .before .args .last) (c .before .before .before .before .pre) (c .if2 .taken) (first-passes (c .before .before .before .before .args .view) (c .before .before .before .before .args .image .now) (c .before .before .before .before .args .place) (c .before .before .before .before .args .n) (c .before .before .before .before .args .first) (c .before .before .before .before .args .last) (c .before .before .before .before .pre) (c .before .before .end-allowed .result) (c .before .before .end-allowed .ensures) ∙ not-false (c .before .before .end-allowed .result) (c .before .if1 .left)))
-
-end-allowed-requires-2 : tie.Need-end-allowed-requires-2
-end-allowed-requires-2 c κs = (c .before .before .before .before .pre .rules, ends-exist (c .before .before .before .before .args .view) (c .before .before .before .before .args .image .now) (c .before .before .before .before .args .place) (c .before .before .before .before .args .n) (c .before .before .before .before .args .first) (c .before .before .before .before .args .last) (c .before .before .before .before .pre) .1, c .before .before .before .before .pre .fits)
+returns-2 c =
+    let s = c .before .before .before .before .before .before .before .before .before in
+    let a = s .args in
+    ends-lower (a .view) (a .image .now) (a .place) (a .n) (a .first) (a .last) (s .pre) _ _ (c .before .before .before .before .before .before .before .covers .ensures) (c .before .before .before .before .before .before .covers2 .ensures)
+    (c .before .before .before .before .before .if1 .left) (c .before .before .before .before .choose .result) (c .before .before .before .choose2 .result) (c .before .before .before .before .choose .ensures) (c .before .before .before .choose2 .ensures)
+    (sym (c .before .before .judge-two .ensures .0) ∙ not-true _ (c .if2 .taken))
 
 returns-3 : tie.Need-returns-3
-returns-3 c = refuse-last (c .before .before .before .before .before .before .args .view) (c .before .before .before .before .before .before .args .image .now) (c .before .before .before .before .before .before .args .place) (c .before .before .before .before .before .before .args .n) (c .before .before .before .before .before .before .args .first) (c .before .before .before .before .before .before .args .last) (c .before .before .before .before .before .before .pre) (first-passes (c .before .before .before .before .before .before .args .view) (c .before .before .before .before .before .before .args .image .now) (c .before .before .before .before .before .before .args .place) (c .before .before .before .before .before .before .args .n) (c .before .before .before .before .before .before .args .first) (c .before .before .before .before .before .before .args .last) (c .before .before .before .before .before .before .pre) (c .before .before .before .before .end-allowed .result) (c .before .before .before .before .end-allowed .ensures) ∙ not-false (c .before .before .before .before .end-allowed .result) (c .before .before .before .if1 .left)) (last-passes (c .before .before .before .before .before .before .args .view) (c .before .before .before .before .before .before .args .image .now) (c .before .before .before .before .before .before .args .place) (c .before .before .before .before .before .before .args .n) (c .before .before .before .before .before .before .args .first) (c .before .before .before .before .before .before .args .last) (c .before .before .before .before .before .before .pre) (c .before .end-allowed2 .result) (c .before .end-allowed2 .ensures) ∙ not-true (c .before .end-allowed2 .result) (c .if3 .taken))
+returns-3 c =
+    let s = c .before .before .before .before .before .before .before .before .before .before .before in
+    let a = s .args in
+    ends-upper (a .view) (a .image .now) (a .place) (a .n) (a .first) (a .last) (s .pre) _ _ (c .before .before .before .before .before .before .before .before .before .covers .ensures) (c .before .before .before .before .before .before .before .before .covers2 .ensures)
+    (c .before .before .before .before .before .before .before .if1 .left) (c .before .before .before .before .before .before .choose .result) (c .before .before .before .before .before .choose2 .result) (c .before .before .before .before .before .before .choose .ensures) (c .before .before .before .before .before .choose2 .ensures)
+    (sym (c .before .before .before .before .judge-two .ensures .0) ∙ not-false _ (c .before .before .if2 .left)) (sym (c .before .before .before .before .judge-two .ensures .1) ∙ not-true _ (c .if3 .taken))
 
 returns-4 : tie.Need-returns-4
-returns-4 c = refuse-none (c .before .before .before .before .before .before .args .view) (c .before .before .before .before .before .before .args .image .now) (c .before .before .before .before .before .before .args .place) (c .before .before .before .before .before .before .args .n) (c .before .before .before .before .before .before .args .first) (c .before .before .before .before .before .before .args .last) (c .before .before .before .before .before .before .pre) (first-passes (c .before .before .before .before .before .before .args .view) (c .before .before .before .before .before .before .args .image .now) (c .before .before .before .before .before .before .args .place) (c .before .before .before .before .before .before .args .n) (c .before .before .before .before .before .before .args .first) (c .before .before .before .before .before .before .args .last) (c .before .before .before .before .before .before .pre) (c .before .before .before .before .end-allowed .result) (c .before .before .before .before .end-allowed .ensures) ∙ not-false (c .before .before .before .before .end-allowed .result) (c .before .before .before .if1 .left)) (last-passes (c .before .before .before .before .before .before .args .view) (c .before .before .before .before .before .before .args .image .now) (c .before .before .before .before .before .before .args .place) (c .before .before .before .before .before .before .args .n) (c .before .before .before .before .before .before .args .first) (c .before .before .before .before .before .before .args .last) (c .before .before .before .before .before .before .pre) (c .before .end-allowed2 .result) (c .before .end-allowed2 .ensures) ∙ not-false (c .before .end-allowed2 .result) (c .if3 .left))
+returns-4 c =
+    let s = c .before .before .before .before .before .before .before .before .before .before .before in
+    let a = s .args in
+    ends-none (a .view) (a .image .now) (a .place) (a .n) (a .first) (a .last) (s .pre) _ _ (c .before .before .before .before .before .before .before .before .before .covers .ensures) (c .before .before .before .before .before .before .before .before .covers2 .ensures)
+    (c .before .before .before .before .before .before .before .if1 .left) (c .before .before .before .before .before .before .choose .result) (c .before .before .before .before .before .choose2 .result) (c .before .before .before .before .before .before .choose .ensures) (c .before .before .before .before .before .choose2 .ensures)
+    (sym (c .before .before .before .before .judge-two .ensures .0) ∙ not-false _ (c .before .before .if2 .left)) (sym (c .before .before .before .before .judge-two .ensures .1) ∙ not-false _ (c .if3 .left))
 
 pub judge-ends-spec : {M : Type 1} → statement M
 judge-ends-spec =
     tie.close
-    (tie.spec end-allowed-requires returns returns-2 end-allowed-requires-2 returns-3 returns-4)
+    (tie.spec
+    covers-requires
+    covers-requires-2
+    returns
+    choose-requires
+    choose-requires-2
+    judge-two-requires
+    returns-2
+    returns-3
+    returns-4)

@@ -1,9 +1,9 @@
-use Rattle.ivfc.specs.Views.{levelOf}
+-- `judge_write` asks 9, then of the two blocks at the write's ends. Assumes nothing.
 use native.Mathlib.Omega.{arith}
 use lib.ListN.{length}
 use Rattle.number.proofs.Tests.{failed, passed}
-use Rattle.steps.proofs.ReadLaws.{log4-small, size4-small, in-level, in-order, last-there}
-use Rattle.steps.proofs.JudgeLaws.{write-outside, write-nothing, write-above, write-ends, end-rules}
+use Rattle.steps.proofs.ReadLaws.{log4-small, size4-small, in-level}
+use Rattle.steps.proofs.JudgeLaws.{write-outside, write-nothing, write-ends, end-rules}
 use borrow.Author.Needs.{needs}
 use Rattle.steps.proofs.judging.judge_write.Statement.{statement}
 use Rattle.steps.proofs.judging.judge_write.Tie as tie
@@ -12,35 +12,50 @@ lies-inside-requires : tie.Need-lies-inside-requires
 lies-inside-requires c κs = search needs
 
 returns : tie.Need-returns
-returns c = write-outside (c .before .before .before .args .view) (c .before .before .before .args .image .now) (c .before .before .before .args .place) (c .before .before .before .args .n) (failed (c .before .lies-inside .ensures) (c .if1 .taken))
+returns c =
+    let a = c .before .before .before .args in
+    write-outside (a .view) (a .image .now) (a .place) (a .n) (failed (c .before .lies-inside .ensures) (c .if1 .taken))
 
 returns-2 : tie.Need-returns-2
-returns-2 c = write-nothing (c .before .before .before .before .args .view) (c .before .before .before .before .args .image .now) (c .before .before .before .before .args .place) (c .before .before .before .before .args .n) (passed (c .before .before .lies-inside .ensures) (c .before .if1 .left)) (c .if2 .taken)
+returns-2 c =
+    let a = c .before .before .before .before .args in
+    write-nothing (a .view) (a .image .now) (a .place) (a .n) (passed (c .before .before .lies-inside .ensures) (c .before .if1 .left)) (c .if2 .taken)
 
 block-of-requires : tie.Need-block-of-requires
-block-of-requires c κs = log4-small (c .before .before .before .before .args .view) (length (c .before .before .before .before .args .image .now)) (c .before .before .before .before .pre)
+block-of-requires c κs =
+    let s = c .before .before .before .before in
+    log4-small (s .args .view) (length (s .args .image .now)) (s .pre)
 
 sub-block-of : tie.Need-sub-block-of
 sub-block-of c = search needs
 
 add-block-of : tie.Need-add-block-of
-add-block-of c = omega (arith, in-level (c .before .before .before .before .before .args .view) (c .before .before .before .before .before .args .image .now) (c .before .before .before .before .before .args .place) (c .before .before .before .before .before .args .n) (passed (c .before .before .before .lies-inside .ensures) (c .before .before .if1 .left)), size4-small (c .before .before .before .before .before .args .view) (length (c .before .before .before .before .before .args .image .now)) (c .before .before .before .before .before .pre))
+add-block-of c =
+    let s = c .before .before .before .before .before in
+    let a = s .args in
+    omega (
+      arith,
+      in-level (a .view) (a .image .now) (a .place) (a .n) (passed (c .before .before .before .lies-inside .ensures) (c .before .before .if1 .left)),
+      size4-small (a .view) (length (a .image .now)) (s .pre),
+    )
 
 block-of-requires-2 : tie.Need-block-of-requires-2
-block-of-requires-2 c κs = log4-small (c .before .before .before .before .before .args .view) (length (c .before .before .before .before .before .args .image .now)) (c .before .before .before .before .before .pre)
-
-first-unvouched-requires : tie.Need-first-unvouched-requires
-unfolding levelOf
-first-unvouched-requires c κs = (c .before .before .before .before .before .before .pre, in-order (c .before .before .before .before .before .before .args .view) (c .before .before .before .before .before .before .args .image .now) (c .before .before .before .before .before .before .args .place) (c .before .before .before .before .before .before .args .n) (passed (c .before .before .before .before .lies-inside .ensures) (c .before .before .before .if1 .left)) (c .before .block-of .result) (c .block-of2 .result) (c .before .before .if2 .left) (c .before .block-of .ensures) (c .block-of2 .ensures), last-there (c .before .before .before .before .before .before .args .view) (c .before .before .before .before .before .before .args .image .now) (c .before .before .before .before .before .before .args .place) (c .before .before .before .before .before .before .args .n) (passed (c .before .before .before .before .lies-inside .ensures) (c .before .before .before .if1 .left)) (c .before .block-of .result) (c .block-of2 .result) (c .before .before .if2 .left) (c .before .block-of .ensures) (c .block-of2 .ensures))
-
-returns-3 : tie.Need-returns-3
-returns-3 c = write-above (c .before .before .before .before .before .before .before .before .args .view) (c .before .before .before .before .before .before .before .before .args .image .now) (c .before .before .before .before .before .before .before .before .args .place) (c .before .before .before .before .before .before .before .before .args .n) (passed (c .before .before .before .before .before .before .lies-inside .ensures) (c .before .before .before .before .before .if1 .left)) (c .before .before .before .block-of .result) (c .before .before .block-of2 .result) (c .before .before .before .before .if2 .left) (c .before .before .before .block-of .ensures) (c .before .before .block-of2 .ensures) (c .before .first-unvouched .result) (c .before .first-unvouched .ensures) (omega (arith, c .if3 .taken))
+block-of-requires-2 c κs =
+    let s = c .before .before .before .before .before in
+    log4-small (s .args .view) (length (s .args .image .now)) (s .pre)
 
 judge-ends-requires : tie.Need-judge-ends-requires
-judge-ends-requires c κs = end-rules (c .before .before .before .before .before .before .before .before .args .view) (c .before .before .before .before .before .before .before .before .args .image .now) (c .before .before .before .before .before .before .before .before .args .place) (c .before .before .before .before .before .before .before .before .args .n) (passed (c .before .before .before .before .before .before .lies-inside .ensures) (c .before .before .before .before .before .if1 .left)) (c .before .before .before .block-of .result) (c .before .before .block-of2 .result) (c .before .before .before .before .if2 .left) (c .before .before .before .block-of .ensures) (c .before .before .block-of2 .ensures) (c .before .first-unvouched .result) (c .before .first-unvouched .ensures) (c .before .before .before .before .before .before .before .before .pre) (c .if3 .left)
+judge-ends-requires c κs =
+    let s = c .before .before .before .before .before .before in
+    let a = s .args in
+    end-rules (a .view) (a .image .now) (a .place) (a .n) (passed (c .before .before .before .before .lies-inside .ensures) (c .before .before .before .if1 .left))
+    (c .before .block-of .result) (c .block-of2 .result) (c .before .before .if2 .left) (c .before .block-of .ensures) (c .block-of2 .ensures) (s .pre)
 
-returns-4 : tie.Need-returns-4
-returns-4 c = write-ends (c .before .before .before .before .before .before .before .before .before .args .view) (c .before .before .before .before .before .before .before .before .before .args .image .now) (c .before .before .before .before .before .before .before .before .before .args .place) (c .before .before .before .before .before .before .before .before .before .args .n) (passed (c .before .before .before .before .before .before .before .lies-inside .ensures) (c .before .before .before .before .before .before .if1 .left)) (c .before .before .before .before .block-of .result) (c .before .before .before .block-of2 .result) (c .before .before .before .before .before .if2 .left) (c .before .before .before .before .block-of .ensures) (c .before .before .before .block-of2 .ensures) (c .before .before .first-unvouched .result) (c .before .before .first-unvouched .ensures) (c .before .if3 .left) (c .judge-ends .result) (c .judge-ends .ensures)
+returns-3 : tie.Need-returns-3
+returns-3 c =
+    let a = c .before .before .before .before .before .before .before .args in
+    write-ends (a .view) (a .image .now) (a .place) (a .n) (passed (c .before .before .before .before .before .lies-inside .ensures) (c .before .before .before .before .if1 .left))
+    (c .judge-ends .result) (c .judge-ends .ensures)
 
 pub judge-write-spec : {M : Type 1} → statement M
 judge-write-spec =
@@ -53,7 +68,5 @@ judge-write-spec =
     sub-block-of
     add-block-of
     block-of-requires-2
-    first-unvouched-requires
-    returns-3
     judge-ends-requires
-    returns-4)
+    returns-3)

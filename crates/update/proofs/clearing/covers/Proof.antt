@@ -1,9 +1,9 @@
 use Rattle.number.proofs.BlockLaws.{exists-byte}
-use Rattle.steps.proofs.JudgeLaws.{start-inside, stop-inside, covers-is}
+use Rattle.update.proofs.JudgeLaws.{start-inside, stop-inside, covers-is}
 use native.Mathlib.Omega.{arith}
 use borrow.Author.Needs.{needs}
-use Rattle.steps.proofs.judging.covers.Statement.{statement}
-use Rattle.steps.proofs.judging.covers.Tie as tie
+use Rattle.update.proofs.clearing.covers.Statement.{statement}
+use Rattle.update.proofs.clearing.covers.Tie as tie
 
 block-size-requires : tie.Need-block-size-requires
 block-size-requires c κs = search needs
