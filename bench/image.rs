@@ -1,11 +1,11 @@
-//! The images: a DIFF with everything live in the first copies, made in memory.
+//! The images: a DIFF, and a DISA with one partition, with everything live in the first copies, made in memory.
 
 use crate::plain_sha256::FORMS;
 use crate::rules::descriptor::{
     DIFI_OPENING, DIFI_SIZE, DPFS_LEVELS, DPFS_OPENING, DPFS_SIZE, ENTRY, IVFC_LEVELS, IVFC_OPENING, IVFC_SIZE,
     MASTER_SIZE,
 };
-use crate::rules::header::{Kind, DIFF_OPENING, HEADER};
+use crate::rules::header::{Kind, DIFF_OPENING, DISA_OPENING, HEADER};
 
 /// A block of level 4.
 pub const BLOCK: usize = 1 << USUAL.ivfc[3];
@@ -82,8 +82,17 @@ pub fn filled(length: usize, seed: u64) -> Vec<u8> {
     (0..length).map(|_| next()).collect()
 }
 
-/// An image whose level 4 holds the data: whole blocks, all of them verified.
+/// A DIFF whose level 4 holds the data: whole blocks, all of them verified.
 pub fn image_of(logs: &Logs, data: &[u8]) -> Vec<u8> {
+    image_as(Kind::Diff, logs, data)
+}
+
+/// The same as a DISA of one partition.
+pub fn save_of(data: &[u8]) -> Vec<u8> {
+    image_as(Kind::Disa, &USUAL, data)
+}
+
+fn image_as(kind: Kind, logs: &Logs, data: &[u8]) -> Vec<u8> {
     let layout = Layout::of(logs, data.len() >> logs.ivfc[3]);
     let mut image = vec![0; layout.image_length()];
     let level3 = entries(data, logs.ivfc[3]);
@@ -95,7 +104,7 @@ pub fn image_of(logs: &Logs, data: &[u8]) -> Vec<u8> {
     }
     put_table(&mut image, &layout);
     put(&mut image, PRIMARY + MASTER, &entries(&level1, logs.ivfc[0]));
-    put_header(&mut image);
+    put_header(&mut image, kind);
     image
 }
 
@@ -121,7 +130,7 @@ fn entries(level: &[u8], log: usize) -> Vec<u8> {
     level.chunks(1 << log).flat_map(padded).collect()
 }
 
-fn put(image: &mut [u8], at: usize, bytes: &[u8]) {
+pub fn put(image: &mut [u8], at: usize, bytes: &[u8]) {
     image[at..at + bytes.len()].copy_from_slice(bytes);
 }
 
@@ -149,10 +158,19 @@ fn put_table(image: &mut [u8], layout: &Layout) {
 }
 
 /// The header, once the primary table is there: that one is active.
-fn put_header(image: &mut [u8]) {
+fn put_header(image: &mut [u8], kind: Kind) {
     let partition_size = image.len() - PARTITION;
-    put(image, HEADER, DIFF_OPENING);
-    put_numbers(image, HEADER + 0x08, &[SECONDARY, PRIMARY, TABLE_SIZE, PARTITION, partition_size]);
+    match kind {
+        Kind::Diff => {
+            put(image, HEADER, DIFF_OPENING);
+            put_numbers(image, HEADER + 0x08, &[SECONDARY, PRIMARY, TABLE_SIZE, PARTITION, partition_size]);
+        }
+        Kind::Disa => {
+            put(image, HEADER, DISA_OPENING);
+            put_numbers(image, HEADER + 0x08, &[1, SECONDARY, PRIMARY, TABLE_SIZE, 0, TABLE_SIZE]);
+            put_numbers(image, HEADER + 0x48, &[PARTITION, partition_size]);
+        }
+    }
     let hash = FORMS[0](&image[PRIMARY..PRIMARY + TABLE_SIZE]);
-    put(image, HEADER + Kind::Diff.hash_place(), &hash);
+    put(image, HEADER + kind.hash_place(), &hash);
 }

@@ -8,6 +8,7 @@ mod faults;
 mod growth;
 mod image;
 mod measures;
+mod names;
 mod openssl;
 mod plain_sha256;
 mod rows;

@@ -7,6 +7,7 @@ use crate::boundary::Library;
 use crate::calls::Calls;
 use crate::counting::{self, hashed_by, Hashed};
 use crate::image::{filled, image_of, BLOCK, TABLE_SIZE, USUAL};
+use crate::names::{name_of, NamedSave};
 use crate::openssl;
 use crate::plain_sha256::{Sha256, FORMS};
 use crate::rows::Row;
@@ -140,6 +141,34 @@ impl World {
 
     pub fn commit(&self) -> Option<Row> {
         self.first_call(0, |begun| begun.commit(), || 2.0 * self.hash_table())
+    }
+
+    /// The names of a save of so many files. What must be hashed are the blocks of the header and of the tables.
+    pub fn listing(&self, files: usize) -> Option<Row> {
+        let save = NamedSave::new(files);
+        let mut row = save.row();
+        assert_eq!(save.list(&mut row), (save.names as u64) << 8);
+        let [time, time_of_b] = best_turns([
+            &mut || per_call(1, || assert_eq!(save.list(black_box(&mut row)), (save.names as u64) << 8)),
+            &mut || self.hash_all(&save.data[..save.touched]),
+        ]);
+        Some(Row { time, time_of_a: None, time_of_b, asked: save.touched, must_hash: save.touched, a_hashes: None })
+    }
+
+    /// The file in the middle, by its folder and its name: the header, both entries 0, a bucket's word and an entry.
+    pub fn finding(&self, files: usize) -> Option<Row> {
+        let save = NamedSave::new(files);
+        let wanted = files / 2;
+        let (folder, name) = ((wanted as u64 - 1) / 100 + 2, name_of(wanted));
+        let call = || assert_eq!(save.find(black_box(folder), black_box(&name)), (wanted as u64) << 8);
+        let touched = 5 * BLOCK;
+        let [time, time_of_b] = best_turns([&mut || per_call(1, call), &mut || self.hash_all(&save.data[..touched])]);
+        Some(Row { time, time_of_a: None, time_of_b, asked: touched, must_hash: touched, a_hashes: None })
+    }
+
+    /// (b)'s turn at whole blocks.
+    fn hash_all(&self, blocks: &[u8]) -> f64 {
+        per_call(1, || blocks.chunks(BLOCK).for_each(|block| digest_once(self.plain, block)))
     }
 
     /// A call for which a session is begun each time, untimed.

@@ -8,7 +8,7 @@ pub const LONG_READ: &str = "verified read of 4096 blocks";
 pub const LONG_WRITE: &str = "write of 64 blocks";
 
 /// A row's name, and how it is measured; nothing comes of it if openssl is missing.
-pub const ROWS: [(&str, fn(&World) -> Option<Row>); 15] = [
+pub const ROWS: [(&str, fn(&World) -> Option<Row>); 17] = [
     ("digest of 32 B", |world| world.digest(32, 1000)),
     (DIGEST_OF_BLOCK, |world| world.digest(BLOCK, 10)),
     ("digest of 1 MiB", |world| world.digest(1 << 20, 1)),
@@ -24,6 +24,8 @@ pub const ROWS: [(&str, fn(&World) -> Option<Row>); 15] = [
     ("write of 1 block", |world| world.write(WRITTEN, BLOCK)),
     (LONG_WRITE, |world| world.write(WRITTEN, 64 * BLOCK)),
     ("commit", |world| world.commit()),
+    ("listing of 10,000 files", |world| world.listing(10_000)),
+    ("finding 1 of 10,000 files", |world| world.finding(10_000)),
 ];
 
 /// Best times in nanoseconds, and bytes hashed.

@@ -8,7 +8,7 @@
  *
  * A pointer and a length lend that many bytes for the call. Both are taken as they are, so they must be right: no pointer may be null, not
  * even where the length is 0 (it is not followed then); the bytes must be there, in one object, so no length is above PTRDIFF_MAX; a session
- * is 257 bytes, a key 16, a block 284, a running digest 104 and a digest 32, a description is 80 numbers and a signer 4, aligned as a uint64_t
+ * is 257 bytes, a key 16, a name 16, a block 284, a running digest 104 and a digest 32, a description is 80 numbers and a signer 4, aligned as a uint64_t
  * is. Of a call that breaks this nothing is promised, no refusal either. A length that is right, but too much, is refused: an image above
  * 0x4000000 bytes by 1, a buffer or data past level 4's end by 9, and a piece that makes a message too long by 22.
  *
@@ -27,8 +27,9 @@ extern "C" {
 /*
  * Answers. The low 8 bits of an answer are 0 if the call is accepted and else the refusal's number; the bits above are a value: for an
  * accepted teplovist_verified 1 for yes and 0 for no, for an accepted teplovist_count_verified the count, for an accepted teplovist_faults
- * the number of all faults, for an accepted teplovist_signing_block the block's length, for the refusal 10 the lowest block of level 4 to
- * which it applies, and else 0. The first check that fails decides; a call that is refused changes nothing, but for a write's 17: it ends the
+ * the number of all faults, for an accepted teplovist_signing_block the block's length, for an accepted teplovist_list_names the number of
+ * names, for an accepted teplovist_find_file the file's entry number or 0 for none, for the refusal 10 the lowest block of level 4 to which
+ * it applies, and else 0. The first check that fails decides; a call that is refused changes nothing, but for a write's 17: it ends the
  * session.
  */
 #define TEPLOVIST_REFUSAL(answer) ((unsigned)((answer) & 0xFF))
@@ -45,13 +46,15 @@ enum {
     TEPLOVIST_PLACEMENT = 7,        /* a descriptor's places, disjointness or number of entries */
     TEPLOVIST_NO_PARTITION = 8,     /* there is no such partition */
     TEPLOVIST_OUT_OF_RANGE = 9,     /* place plus length exceeds level 4's size; there is no such block */
-    TEPLOVIST_UNVERIFIED = 10,      /* read: a touched block is not verified; write: one that it covers only in part is not */
+    TEPLOVIST_UNVERIFIED = 10,      /* read and names: a touched block is not verified; write: one that it covers only in part is not */
     TEPLOVIST_EXTERNAL_LEVEL = 12,  /* write: the partition's level 4 is external */
     TEPLOVIST_SESSION_STATE = 13,   /* the session is idle where begun is needed, or begun where idle is */
     TEPLOVIST_STALE = 14,           /* the header or the inactive table is not as the session left it */
     TEPLOVIST_SIGNER_KIND = 15,     /* the container's kind does not fit the signer's type */
     TEPLOVIST_SIGNATURE = 16,       /* the first 16 bytes are not the signature */
     TEPLOVIST_ZERO_DIGEST = 17,     /* write: a digest that the finished write would hold is all zero; the session is idle */
+    TEPLOVIST_INVALID_ENTRY = 18,   /* names: an entry number that is not in use, an entry met twice, or a folder that is too deep */
+    TEPLOVIST_NO_SAVE = 19,         /* names: another kind of container, or no SAVE header whose tables lie in level 4 */
     TEPLOVIST_DIGEST_TOO_LONG = 22  /* a running digest was fed, or would be, more than 2^61 - 1 bytes */
 };
 
@@ -140,6 +143,14 @@ enum {
 #define TEPLOVIST_KEY_SIZE 16
 
 /*
+ * A name of a listing is a record of 24 bytes. Byte 0 is the kind, 0 for a folder and 1 for a file, and bytes 1 to 3 are 0; bytes 4 to 7 are the
+ * entry's number, the least significant first; bytes 8 to 23 are the 16 name bytes as the entry has them. The root is the first name: a folder,
+ * number 1.
+ */
+#define TEPLOVIST_NAME_RECORD 24
+#define TEPLOVIST_NAME_SIZE 16
+
+/*
  * A running digest is 104 bytes that the caller keeps: the hash value's eight words, the block whose front waits to be full, and how many
  * bytes were fed, each number with its least significant byte first. Any 104 bytes are one, but only what teplovist_digest_start made, and
  * was then fed, is the digest of a message.
@@ -147,8 +158,8 @@ enum {
 #define TEPLOVIST_DIGEST_STATE_SIZE 104
 
 /*
- * The calls from teplovist_open to teplovist_commit_signed open the image first and may be refused with 1 to 7. teplovist_abandon and the calls on
- * a running digest take no image; the two calls for a signer look at its length and its header alone.
+ * The calls from teplovist_open to teplovist_find_file, but for teplovist_abandon, open the image first and may be refused with 1
+ * to 7. teplovist_abandon and the calls on a running digest take no image; the two calls for a signer look at its length and its header alone.
  */
 
 /* Opens an image and stores its 80 numbers. Refusals: 1 to 7. */
@@ -221,6 +232,25 @@ uint64_t teplovist_commit_signed(uint8_t *image, size_t image_length, uint8_t *s
 
 /* Ends a session without a look at the image: what it staged is forgotten. Refusals: 13. */
 uint64_t teplovist_abandon(uint8_t *session);
+
+/*
+ * Lists the folders and files of a SAVE image, as the active table has it: a folder's own entry, its files in sibling order, then each of its
+ * subfolders in the same way. The answer's value is the number of all names. The row is row_length bytes; it holds the first row_length / 24 names,
+ * and no byte past the last name's record changes. A row of no bytes serves to count. Refusals: 19 for a container other than a DISA of one
+ * partition with internal level 4, or for level 4 shorter than the header's 0x88 bytes; then, whichever is met first, 10 with the lowest block that
+ * is not verified of those that a read touches, 19 for what the header says, and 18.
+ *
+ * The walk calls itself for each folder, at most 1,000 levels below the root. It needs half a megabyte of stack for its marks, and 1.5 MB at the
+ * deepest (measured on x86-64).
+ */
+uint64_t teplovist_list_names(const uint8_t *image, size_t image_length, uint8_t *row, size_t row_length);
+
+/*
+ * Finds the file that has a name in the folder with that number: the answer's value is its entry number, or 0 if there is none. The name is
+ * compared in all 16 bytes. Only the chain of the name's bucket is walked. The folder's number is not judged; above 2^32 - 1 it is in no entry, and
+ * the chain is that of the number modulo 2^32. It needs 0.3 MB of stack. Refusals as of teplovist_list_names.
+ */
+uint64_t teplovist_find_file(const uint8_t *image, size_t image_length, uint64_t folder, const uint8_t *name);
 
 /*
  * Stores the block that a signer signs of an image; the answer's value is its length. The header is taken as it is, whatever its fields

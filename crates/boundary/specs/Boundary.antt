@@ -31,6 +31,10 @@ use Rattle.steps.specs.declared.Count.the-variants as count
 use Rattle.steps.specs.declared.Ending.{Ending}
 use Rattle.steps.specs.declared.Ending.the-variants as ending
 use Rattle.steps.specs.declared.Session.{Session}
+use Rattle.save.specs.declared.Listed.{Listed}
+use Rattle.save.specs.declared.Listed.the-variants as listed
+use Rattle.save.specs.declared.Sought.{Sought}
+use Rattle.save.specs.declared.Sought.the-variants as sought
 use Rattle.steps.specs.Calls.{After}
 
 -- ---- an answer is one number of 64 bits
@@ -66,6 +70,17 @@ countAnswer (count.Refused r) = refusedAnswer r
 abbrev pub openedAnswer : Opened → ℕ
 openedAnswer (opening.Valid c) = packed 0 0
 openedAnswer (opening.Refused r) = refusedAnswer r
+
+-- how many names there are
+abbrev pub listedAnswer : Listed → ℕ
+listedAnswer (listed.Names n) = packed 0 n
+listedAnswer (listed.Refused r) = refusedAnswer r
+
+-- the file's entry number, which is never 0; 0 for none
+abbrev pub soughtAnswer : Sought → ℕ
+soughtAnswer (sought.File f) = packed 0 f
+soughtAnswer sought.Nothing = packed 0 0
+soughtAnswer (sought.Refused r) = refusedAnswer r
 
 -- ---- a session is 257 bytes: 0 for idle and anything else for begun, then the remembered header
 

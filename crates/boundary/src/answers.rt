@@ -4,12 +4,14 @@ use layout::Outcome;
 use layout::Refusal;
 use layout::refusals::carried_by;
 use layout::refusals::number_of;
+use save::Listed;
+use save::Sought;
 use signing::Built;
 use steps::Count;
 use steps::Ending;
 use steps::Verdict;
 ghost use mathlib.Core.Path.{_≡_};
-ghost use Rattle.boundary.specs.Boundary.{packed, refusedAnswer, outcomeAnswer, endingAnswer, verdictAnswer, countAnswer, openedAnswer};
+ghost use Rattle.boundary.specs.Boundary.{packed, refusedAnswer, outcomeAnswer, endingAnswer, verdictAnswer, countAnswer, openedAnswer, listedAnswer, soughtAnswer};
 ghost use Rattle.boundary.specs.Signers.{builtAnswer};
 
 fn pack(number: u64, value: u64) -> u64
@@ -70,6 +72,27 @@ pub fn opened_answer(answer: Opened) -> u64
     match answer {
         Opened::Valid(_) => pack(0, 0),
         Opened::Refused(refusal) => refused_answer(refusal),
+    }
+}
+
+// How many names there are.
+pub fn listed_answer(listed: Listed) -> u64
+    ensures { λ r. ⌜ r ≡ listedAnswer listed ⌝ }
+{
+    match listed {
+        Listed::Names(n) => pack(0, n),
+        Listed::Refused(refusal) => refused_answer(refusal),
+    }
+}
+
+// The file's entry number, 0 for none.
+pub fn sought_answer(sought: Sought) -> u64
+    ensures { λ r. ⌜ r ≡ soughtAnswer sought ⌝ }
+{
+    match sought {
+        Sought::File(f) => pack(0, f),
+        Sought::Nothing => pack(0, 0),
+        Sought::Refused(refusal) => refused_answer(refusal),
     }
 }
 

@@ -3,8 +3,10 @@
 use boundary::answers::built_answer;
 use boundary::answers::count_answer;
 use boundary::answers::ending_answer;
+use boundary::answers::listed_answer;
 use boundary::answers::opened_answer;
 use boundary::answers::outcome_answer;
+use boundary::answers::sought_answer;
 use boundary::answers::verdict_answer;
 use boundary::description::description_left;
 use boundary::digests::digest_left;
@@ -19,6 +21,8 @@ use container::blocks;
 use container::reading;
 use container::sessions;
 use faults::Fault;
+use save::calls::find_file;
+use save::calls::list_names;
 use signing::digests::advance;
 use signing::digests::finish;
 use signing::digests::start;
@@ -29,7 +33,8 @@ ghost use Rattle.sha256.specs.Running.{stateOf, fresh};
 ghost use Rattle.signing.specs.Calls.{signed, outcomeOf, builtAs, blockLeft, digestLeft};
 ghost use Rattle.signatures.specs.Signatures.{openedSigned};
 ghost use Rattle.steps.specs.Calls as calls;
-ghost use Rattle.boundary.specs.Boundary.{outcomeAnswer, endingAnswer, verdictAnswer, countAnswer, openedAnswer, descriptionLeft, sessionOf, sessionLeft, writeLeft, Called};
+ghost use Rattle.boundary.specs.Boundary.{outcomeAnswer, endingAnswer, verdictAnswer, countAnswer, openedAnswer, descriptionLeft, sessionOf, sessionLeft, writeLeft, Called, listedAnswer, soughtAnswer};
+ghost use Rattle.save.specs.Calls.{listNames, findFile};
 ghost use Rattle.boundary.specs.Digests.{runningOf, FedBytes, FinishedBytes};
 ghost use Rattle.boundary.specs.Signers.{signerOf, builtAnswer};
 
@@ -191,6 +196,22 @@ pub extern "C" fn teplovist_abandon(session: &mut [u8; 257]) -> u64
     *session = session_left(abandoned, before);
     let outcome = abandoned.outcome;
     ending_answer(outcome)
+}
+
+// Lists the folders and files of a save into the row.
+#[no_mangle]
+pub extern "C" fn teplovist_list_names(image: &[u8], row: &mut [u8]) -> u64
+    ensures { λ r. ⌜ (r ≡ listedAnswer (listNames (now (image .entry)) (now (row .entry)) .answer)) × (now (row .exit) ≡ listNames (now (image .entry)) (now (row .entry)) .row) ⌝ }
+{
+    listed_answer(list_names(image, row))
+}
+
+// Finds a file of a save by its folder's number and its name.
+#[no_mangle]
+pub extern "C" fn teplovist_find_file(image: &[u8], folder: u64, name: &[u8; 16]) -> u64
+    ensures { λ r. ⌜ r ≡ soughtAnswer (findFile (now (image .entry)) folder (now (name .entry))) ⌝ }
+{
+    sought_answer(find_file(image, folder, name))
 }
 
 // The block that a signer signs of an image.

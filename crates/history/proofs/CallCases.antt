@@ -23,6 +23,11 @@ use Rattle.steps.specs.declared.Verdict.{Verdict}
 use Rattle.steps.specs.declared.Verdict.the-variants as verdict
 use Rattle.steps.specs.declared.Count.{Count}
 use Rattle.steps.specs.declared.Count.the-variants as count
+use Rattle.save.specs.declared.Listed.{Listed}
+use Rattle.save.specs.declared.Listed.the-variants as listed
+use Rattle.save.specs.declared.Sought.{Sought}
+use Rattle.save.specs.declared.Sought.the-variants as sought
+use Rattle.save.specs.Calls.{listNames, findFile}
 use Rattle.faults.specs.declared.Fault.{Fault}
 use Rattle.faults.specs.Faults.{faults, countFaults, rowAfter}
 use Rattle.steps.specs.declared.Ending.{Ending}
@@ -37,7 +42,7 @@ use Rattle.signing.specs.Calls.{Answer, Signs, signed, builtAs, outcomeOf, bloc
 use Rattle.signing.specs.Calls as signing
 use Rattle.commits.specs.Committing.{committedImage, committedSigned}
 use Rattle.steps.specs.Calls.{After, unchanged, done, finished, leaving, readCommitted, readStaged, isVerified, countVerified, begin, beginIn, inSession, writeTo, writeOn, write, commitOn, commit, commitBy, commitSigned, abandon, Abandoned}
-use Rattle.history.specs.Model.{Form, Plain, Signed, Query, Open, ReadCommitted, ReadStaged, IsVerified, CountVerified, ListFaults, SigningBlock, SigningDigest, Call, Ask, Begin, Write, Commit, Abandon, Opening, Judging, Counting, Listing, Building, Ruling, Accepted, Refused, Dropped, rulingOf, endingOf, ruling}
+use Rattle.history.specs.Model.{Form, Plain, Signed, Query, Open, ReadCommitted, ReadStaged, IsVerified, CountVerified, ListFaults, SigningBlock, SigningDigest, ListNames, FindFile, Call, Ask, Begin, Write, Commit, Abandon, Opening, Judging, Counting, Listing, Building, Finding, Ruling, Accepted, Refused, Dropped, rulingOf, endingOf, namesRuling, ruling}
 use Rattle.history.specs.Run.{State, openedAs, committedAs, reply, perform, ruled, next}
 
 pub not-dropped : {B : Type 0} {r : Ruling} → r ≡ Dropped → r ≡ Refused → B
@@ -197,6 +202,15 @@ lasts-built : (b : Built) (buffer : List ℕ) → ruling (Building b buffer) ≡
 lasts-built (built.Bytes n) buffer e = not-taken e refl
 lasts-built (built.Refused r) buffer e = not-dropped e refl
 
+lasts-names : (n : Listed) → namesRuling n ≡ Dropped → ⊥
+lasts-names (listed.Names n) e = not-taken e refl
+lasts-names (listed.Refused r) e = not-dropped e refl
+
+lasts-found : (s : Sought) → ruling (Finding s) ≡ Dropped → ⊥
+lasts-found (sought.File f) e = not-taken e refl
+lasts-found sought.Nothing e = not-taken e refl
+lasts-found (sought.Refused r) e = not-dropped e refl
+
 lasts-query : (query : Query) (st : State) → ruling (reply query st) ≡ Dropped → ⊥
 unfolding reply
 lasts-query (Open form) st = lasts-opening (openedAs form (st .image))
@@ -207,6 +221,8 @@ lasts-query (CountVerified q) st = lasts-count (countVerified (st .image) q)
 lasts-query (ListFaults row) st = lasts-listing (countFaults (st .image)) (rowAfter (faults (st .image)) row)
 lasts-query (SigningBlock signer buffer) st = lasts-built (builtAs (signed (st .image) signer)) (blockLeft (signed (st .image) signer) buffer)
 lasts-query (SigningDigest signer buffer) st = lasts-outcome (outcomeOf (signed (st .image) signer))
+lasts-query (ListNames row) st = lasts-names (listNames (st .image) row .answer)
+lasts-query (FindFile folder name) st = lasts-found (findFile (st .image) folder name)
 
 abbrev pub isWrite : Call → Bool
 isWrite (Ask query) = false

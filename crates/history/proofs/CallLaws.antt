@@ -17,7 +17,8 @@ use Rattle.layout.specs.declared.Outcome.the-variants as outcome
 use Rattle.steps.specs.Sessions.{begunImage, tableStaged, writeOutcome}
 use Rattle.commits.specs.Committing.{headerCommitted}
 use Rattle.faults.specs.Faults.{faultsOf}
-use Rattle.history.specs.Model.{versionOf, laidOver, Form}
+use Rattle.history.specs.Model.{laidOver, Form}
+use Rattle.views.specs.Versions.{versionOf}
 use Rattle.history.specs.Theorem.{Left}
 use Rattle.history.proofs.CallCases.{landedImage}
 

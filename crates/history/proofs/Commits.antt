@@ -45,7 +45,7 @@ use Rattle.views.specs.Places.{partitions, secondOr, slotOf, partitionOf, treeI
 use Rattle.views.proofs.PlaceLaws.{first-there, inactive-table, tree-inside, tree-rules, staged-rules, staged-master}
 use Rattle.steps.specs.Sessions.{stagedTable, inSomeMaster, tableStaged}
 use Rattle.commits.specs.Committing.{headerCommitted}
-use Rattle.history.specs.Model.{versionOf}
+use Rattle.views.specs.Versions.{versionOf}
 use Rattle.history.proofs.CallLaws.{Headed, CommitLaws}
 use Rattle.history.proofs.Seen.{SameSeen, same-version}
 use Rattle.history.proofs.Flips.{partitionFlipped, Restaged, flipped-judged, headerFlipped, reheaded-size, reheaded-hash, flipped-header}

@@ -25,11 +25,13 @@ use Rattle.signing.specs.Calls.{Answer, Signs, signed}
 use Rattle.signing.specs.Calls as signing
 use Rattle.number.specs.Ranges.{part}
 use Rattle.signatures.specs.Signatures.{signatureRange, afterSigner, comesFirst, openedSigned}
-use Rattle.history.specs.Model.{Version, versionOf, readOf, judgedOf, countTrue, Form, Plain, Signed, Call, Ask, Begin, Write, Commit, Abandon, Ruling, Accepted, Refused, Dropped, Did}
+use Rattle.history.specs.Model.{readOf, judgedOf, countTrue, Form, Plain, Signed, Call, Ask, Begin, Write, Commit, Abandon, Ruling, Accepted, Refused, Dropped, Did}
 use Rattle.history.specs.Run.{State, openedAs, perform, ruled, next, after, events, commits, commitOf}
 use Rattle.history.specs.Theorem.{SameAnswers, Left}
 use Rattle.history.proofs.VersionLaws.{read-version, judged-version, count-version}
 use Rattle.history.proofs.CallCases.{refused, begun-by, written-by, ended-by, isWrite, lasts}
+use Rattle.views.specs.Versions.{Version, versionOf}
+use Rattle.history.proofs.NameLaws.{names-same, file-same}
 use Rattle.history.proofs.CallLaws.{CallLaws}
 
 -- what is signed is of an image's length and its header
@@ -106,6 +108,8 @@ module _ (W : CallLaws) where
     faultCount = ap (countFaultsIn left) o' ∙ ap (λ (l : List Fault). count.Blocks (length l)) (W .frame image left c o k .faults) ∙ sym (ap (countFaultsIn image) o);
     faultList = ap (faultsIn left) o' ∙ W .frame image left c o k .faults ∙ sym (ap (faultsIn image) o);
     signing = same-signed image left (k .size) (W .frame image left c o k .header);
+    names = names-same image c o left o' (same 0);
+    finds = file-same image c o left o' (same 0);
   }
     where
       o' : opened left ≡ opening.Valid c

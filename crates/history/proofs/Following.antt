@@ -4,6 +4,7 @@ use mathlib.Core.Bool.{Bool, true, false, cond}
 use mathlib.Core.List.{List, [], _∷_}
 use mathlib.Core.Option.{Option, none, some, Option·map, Option·getD}
 use Prim.Native.Nat.{ℕ}
+use native.Mathlib.Omega.{arith}
 use lib.Dec.{eqb}
 use borrow.Author.Tests.{eqb-true, eqb-false}
 use Rattle.number.specs.Bytes.{sameBytes}
@@ -12,19 +13,23 @@ use Rattle.number.proofs.ListLaws.{same-refl}
 use Rattle.layout.specs.declared.Container.{Container}
 use Rattle.layout.specs.Headers.{headerBytes}
 use Rattle.update.specs.Staged.{writtenTo, holdsZero}
-use Rattle.views.specs.Places.{stagedView}
+use Rattle.views.specs.Places.{stagedView, committedView}
 use Rattle.steps.specs.declared.Count.the-variants as count
 use Rattle.steps.specs.declared.Session.{Session}
 use Rattle.steps.specs.Sessions.{idle, begunImage, current, tableStaged}
 use Rattle.steps.specs.Calls.{After, readCommitted, readStaged, isVerified, countVerified}
 use Rattle.faults.specs.Faults.{kept, faults}
 use Rattle.faults.specs.Laws.{ofLevel}
-use Rattle.history.specs.Model.{Version, versionOf, laidOver, Form, Query, Open, ReadCommitted, ReadStaged, IsVerified, CountVerified, ListFaults, SigningBlock, SigningDigest, Call, Ask, Begin, Write, Commit, Abandon, Answer, Reading, Judging, Counting, Ruling, Accepted, Refused, Dropped, Model, advance, followed, readOf, readStagedOf, judgedOf, countTrue, says, unverified}
+use Rattle.history.specs.Model.{laidOver, Form, Query, Open, ReadCommitted, ReadStaged, IsVerified, CountVerified, ListFaults, SigningBlock, SigningDigest, Call, Ask, Begin, Write, Commit, Abandon, Answer, Reading, Judging, Counting, Ruling, Accepted, Refused, Dropped, Model, advance, followed, readOf, readStagedOf, judgedOf, countTrue, says, unverified, ListNames, FindFile}
+use Rattle.views.specs.Versions.{Version, versionOf}
 use Rattle.history.specs.Run.{State, reply, perform, ruled, next, after, events}
 use Rattle.history.specs.Theorem.{Has, Start, committedIn, stagedIn, Follows, History, Left}
+use Rattle.save.specs.Calls.{holdsSave, namesOf, fileOf}
+use Rattle.save.proofs.CallLaws.{holds-one}
 use Rattle.history.proofs.VersionLaws.{never}
 use Rattle.history.proofs.ReadLaws.{read-committed, read-staged, read-idle, judged, counted, faulty-version}
 use Rattle.history.proofs.CallCases.{landedImage, not-both, refused, idles, begun-by, written-by, committed-by, abandoned-by, idle-rests, ended-by, lasts}
+use Rattle.history.proofs.NameLaws.{names-there, file-there}
 use Rattle.history.proofs.CallLaws.{FrameLaws, WriteLaws, CommitLaws, CallLaws}
 
 -- what is kept from call to call: also whether the session is begun, and that it may go on
@@ -225,6 +230,14 @@ module _ (W : CallLaws) where
     answers (ListFaults row) a e = never e
     answers (SigningBlock signer buffer) a e = never e
     answers (SigningDigest signer buffer) a e = never e
+    answers (ListNames row) a e = never e
+    answers (FindFile folder name) a e = never e
+
+    -- the container of a save has one partition, so this one is A
+    first-is : holdsSave c ≡ true → versionOf (committedView c 0) (st .image) ≡ m .committed
+    first-is h =
+        let z : 0 ≡ p = omega (arith, g .has .there, holds-one c h) in
+        ap (λ (q : ℕ). versionOf (committedView c q) (st .image)) z ∙ g .committed
 
     -- the faults of the partition's level 4
     pub faulty-of : kept (ofLevel p 4) (faults (st .image)) ≡ unverified p 0 (m .committed .verified)
@@ -235,6 +248,8 @@ module _ (W : CallLaws) where
       has = g .has;
       committed = g .committed;
       staged = λ v e. subst (λ (o : Option Version). Tracks (g .has) (st .session) o) e (g .staged) .2;
+      names = λ h row. names-there (st .image) c (g .has .opens) h row ∙ ap (λ (v : Version). namesOf v row) (first-is h);
+      finds = λ h folder name. file-there (st .image) c (g .has .opens) h folder name ∙ ap (λ (v : Version). fileOf v folder name) (first-is h);
     }
 
   -- the whole list

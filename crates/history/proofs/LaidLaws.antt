@@ -18,7 +18,8 @@ use Rattle.number.proofs.Tests.{and-left, and-right}
 use Rattle.number.proofs.ListLaws.{outside-or-in, sets-out}
 use Rattle.number.proofs.OverlayLaws.{within-in, within-out}
 use Rattle.number.proofs.BlockLaws.{touches-byte}
-use Rattle.history.specs.Model.{Version, marked, laidOver, Event}
+use Rattle.history.specs.Model.{marked, laidOver, Event}
+use Rattle.views.specs.Versions.{Version}
 use Rattle.history.specs.Run.{Put, putBy, valueAt, later, lastValue}
 use Rattle.history.proofs.VersionLaws.{never}
 

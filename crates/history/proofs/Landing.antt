@@ -22,10 +22,12 @@ use Rattle.ivfc.specs.Views.{contentOf, verified}
 use Rattle.views.specs.Places.{viewIn, committedView, stagedView}
 use Rattle.layout.specs.declared.Outcome.the-variants as outcome
 use Rattle.steps.specs.Calls.{readCommitted}
-use Rattle.history.specs.Model.{Version, versionOf, laidOver, lowest, readOf, Form, Call, Ask, Begin, Write, Commit, Abandon, Ruling, Accepted, Refused, Dropped, Event, Did, Model, advance, followed}
+use Rattle.history.specs.Model.{laidOver, lowest, readOf, Form, Call, Ask, Begin, Write, Commit, Abandon, Ruling, Accepted, Refused, Dropped, Event, Did, Model, advance, followed}
+use Rattle.views.specs.Versions.{Version, versionOf}
 use Rattle.history.specs.Run.{State, perform, ruled, next, after, events, beginOf, begins, commitOf, commits, Put, putBy, valueAt, later, lastValue}
 use Rattle.history.specs.Theorem.{Has, Start, committedIn, levelIn, byteIn, verifiedIn, Landed}
-use Rattle.history.proofs.VersionLaws.{never, length-flags, getD-flags}
+use Rattle.history.proofs.VersionLaws.{never}
+use Rattle.views.proofs.FlagLaws.{length-flags, getD-flags}
 use Rattle.history.proofs.ReadLaws.{read-committed}
 use Rattle.history.proofs.CallCases.{write-fits, not-both, not-dropped, lasts, refused, idles, idle-after, written-by}
 use Rattle.history.proofs.CallLaws.{CallLaws}

@@ -1,5 +1,6 @@
 pub mod VersionLaws
 pub mod ReadLaws
+pub mod NameLaws
 pub mod CallCases
 pub mod CallLaws
 pub mod Following

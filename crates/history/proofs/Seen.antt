@@ -14,8 +14,8 @@ use Rattle.ivfc.specs.declared.View.{View}
 use Rattle.ivfc.specs.Views.{levelOf, innerByte, contentOf, verified}
 use Rattle.ivfc.specs.Rules.{ViewRules}
 use Rattle.ivfc.proofs.VerifiedLaws.{view-verified-cong}
-use Rattle.history.specs.Model.{flags, versionOf}
-use Rattle.history.proofs.VersionLaws.{flags-cong}
+use Rattle.views.specs.Versions.{flags, versionOf}
+use Rattle.views.proofs.FlagLaws.{flags-cong}
 
 -- the view v of s and the view w of t have the same levels, master hash, DPFS level 3 and external level 4
 pub record SameSeen (v w : View) (s t : List ℕ) : Type 0 where

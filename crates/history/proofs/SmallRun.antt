@@ -41,7 +41,8 @@ use Rattle.steps.specs.Sessions.{idle, begunImage, current, endsOutcome, writeO
 use Rattle.steps.specs.Calls.{After, finished, inSession, writeOn, write}
 use Rattle.steps.proofs.BeginLaws.{begun-current}
 use Rattle.steps.proofs.WriteLaws.{write-rules}
-use Rattle.history.specs.Model.{Plain, Version, versionOf, flags, Call, Begin, Write, Commit, Accepted, endingOf, Did}
+use Rattle.history.specs.Model.{Plain, Call, Begin, Write, Commit, Accepted, endingOf, Did, rulingOf}
+use Rattle.views.specs.Versions.{Version, versionOf, flags}
 use Rattle.history.specs.Run.{State, perform, ruled, next, after, events, begins, commits}
 use Rattle.history.specs.Theorem.{Start}
 use Rattle.history.proofs.CallCases.{begun-by, written-by}

@@ -25,31 +25,14 @@ use Rattle.steps.specs.declared.Verdict.the-variants as verdict
 use Rattle.steps.specs.declared.Count.the-variants as count
 use Rattle.steps.specs.Reading.{Read, touched, refuseLowest, refuseOutside, readOutcome, filled, readFrom, said, verdictOn, countIn}
 use Rattle.steps.specs.Calls.{unread}
-use Rattle.history.specs.Model.{flags, versionOf, lowest, handed, readOf, judgedOf, countTrue}
+use Rattle.history.specs.Model.{lowest, handed, readOf, judgedOf, countTrue}
+use Rattle.views.specs.Versions.{flags, versionOf}
+use Rattle.views.proofs.FlagLaws.{length-flags, getD-flags}
 
 pub never : {A : Type 0} {B : Type 0} {a : A} → _≡_ {A = Option A} none (some a) → B
 never e = let z : _≡_ {A = ℕ} 0 1 = cc in absurd (omega arith)
 
 -- ---- flags
-
-pub length-flags : (P : ℕ → Bool) (b n : ℕ) → length (flags P b n) ≡ n
-unfolding flags
-length-flags P b zero = refl
-length-flags P b (suc n) = ap suc (length-flags P (suc b) n)
-
-pub getD-flags : (P : ℕ → Bool) (b n k : ℕ) → k < n → getD (flags P b n) k false ≡ P (b + k)
-unfolding flags
-getD-flags P b zero k h = absurd (omega arith)
-getD-flags P b (suc n) zero h = ap P (sym (add-zero b))
-getD-flags P b (suc n) (suc k) h =
-    let e : suc b + k ≡ b + suc k = omega arith in
-    getD-flags P (suc b) n k (omega arith) ∙ ap P e
-
-pub flags-cong : (P Q : ℕ → Bool) (b n : ℕ) → ((k : ℕ) → k < n → P (b + k) ≡ Q (b + k)) → flags P b n ≡ flags Q b n
-flags-cong P Q b n h =
-    ext-getD false (flags P b n) (flags Q b n) (length-flags P b n ∙ sym (length-flags Q b n))
-    (λ k l. let m : k < n = rw (← length-flags P b n) l in
-    getD-flags P b n k m ∙ h k m ∙ sym (getD-flags Q b n k m))
 
 count-flags : (P : ℕ → Bool) (b n : ℕ) → countTrue (flags P b n) + countOf P b ≡ countOf P (b + n)
 unfolding flags countTrue countOf

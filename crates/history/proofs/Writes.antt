@@ -39,9 +39,10 @@ use Rattle.layout.specs.declared.Outcome.{Outcome}
 use Rattle.layout.specs.declared.Outcome.the-variants as outcome
 use Rattle.steps.specs.Reading.{touched, refuseLowest, refuseOutside}
 use Rattle.steps.specs.Sessions.{stagedTable, inMaster, inSomeMaster, tableStaged, writeOutcome}
-use Rattle.history.specs.Model.{flags, versionOf, marked, laidOver}
+use Rattle.history.specs.Model.{marked, laidOver}
+use Rattle.views.specs.Versions.{flags, versionOf}
 use Rattle.history.specs.Theorem.{Left}
-use Rattle.history.proofs.VersionLaws.{flags-cong}
+use Rattle.views.proofs.FlagLaws.{flags-cong}
 use Rattle.history.proofs.CallCases.{passed, unrefused, write-fits}
 use Rattle.history.proofs.CallLaws.{WriteLaws}
 use Rattle.history.proofs.LaidLaws.{put-bytes}

@@ -13,9 +13,7 @@ use Rattle.number.specs.Bytes as number
 use Rattle.layout.specs.declared.Opened.{Opened}
 use Rattle.layout.specs.declared.Opened.the-variants as opening
 use Rattle.layout.specs.declared.Refusal.the-variants.{OutOfRange, Unverified, SessionState}
-use Rattle.ivfc.specs.declared.View.{View}
-use Rattle.ivfc.specs.Views.{contentOf}
-use Rattle.ivfc.specs.Views as ivfc
+use Rattle.views.specs.Versions.{Version}
 use Rattle.layout.specs.declared.Outcome.{Outcome}
 use Rattle.layout.specs.declared.Outcome.the-variants as outcome
 use Rattle.steps.specs.declared.Verdict.{Verdict}
@@ -27,30 +25,16 @@ use Rattle.steps.specs.declared.Ending.the-variants as ending
 use Rattle.steps.specs.Reading.{Read, said}
 use Rattle.steps.specs.Calls.{unread}
 use Rattle.faults.specs.declared.Fault.{Fault}
+use Rattle.save.specs.declared.Listed.{Listed}
+use Rattle.save.specs.declared.Listed.the-variants as listed
+use Rattle.save.specs.declared.Sought.{Sought}
+use Rattle.save.specs.declared.Sought.the-variants as sought
+use Rattle.save.specs.Calls.{Names}
 use Rattle.signing.specs.declared.Signer.{Signer}
 use Rattle.signing.specs.declared.Built.{Built}
 use Rattle.signing.specs.declared.Built.the-variants as built
 
--- ---- a version: level 4's bytes, and which of its blocks are verified
-
--- `level` is level 4's size and the logarithm of its blocks
-pub record Version : Type 0 where
-  pub level : Level
-  pub bytes : List ℕ
-  pub verified : List Bool
-
--- whether P holds at each of n numbers from b on
-unfoldable pub flags : (P : ℕ → Bool) → (b n : ℕ) → List Bool
-flags P b zero = []
-flags P b (suc n) = P b ∷ flags P (suc b) n
-
--- the version that a view of an image shows
-unfoldable pub versionOf : View → List ℕ → Version
-versionOf view image = record {
-  level = view .level4;
-  bytes = number.bytes (contentOf view image 4) 0 (view .level4 .size);
-  verified = flags (ivfc.verified view image 4) 0 (blocks (view .level4));
-}
+-- ---- a version
 
 -- from block b on, the touched ones verified, the others as they were
 unfoldable pub marked : (touched : ℕ → Bool) → (b : ℕ) → List Bool → List Bool
@@ -81,6 +65,8 @@ pub data Query : Type 0 where
   CountVerified : (partition : ℕ) → Query
   ListFaults : (row : List Fault) → Query
   SigningBlock SigningDigest : (signer : Signer) → (buffer : List ℕ) → Query
+  ListNames : (row : List ℕ) → Query
+  FindFile : (folder : ℕ) → (name : List ℕ) → Query
 
 pub data Call : Type 0 where
   Ask : Query → Call
@@ -98,6 +84,8 @@ pub data Answer : Type 0 where
   Listing : Count → (row : List Fault) → Answer
   Building : Built → (buffer : List ℕ) → Answer
   Digesting : Outcome → (buffer : List ℕ) → Answer
+  Naming : Names → Answer
+  Finding : Sought → Answer
   Stepping : Ending → Answer
 
 -- whether it was accepted; a write that ends in 17 is dropped
@@ -113,6 +101,10 @@ endingOf ending.Accepted = Accepted
 endingOf (ending.Refused r) = Refused
 endingOf ending.Dropped = Dropped
 
+abbrev pub namesRuling : Listed → Ruling
+namesRuling (listed.Names n) = Accepted
+namesRuling (listed.Refused r) = Refused
+
 abbrev pub ruling : Answer → Ruling
 ruling (Opening (opening.Valid c)) = Accepted
 ruling (Opening (opening.Refused r)) = Refused
@@ -127,6 +119,10 @@ ruling (Listing (count.Refused r) row) = Refused
 ruling (Building (built.Bytes n) buffer) = Accepted
 ruling (Building (built.Refused r) buffer) = Refused
 ruling (Digesting outcome buffer) = rulingOf outcome
+ruling (Naming names) = namesRuling (names .answer)
+ruling (Finding (sought.File f)) = Accepted
+ruling (Finding sought.Nothing) = Accepted
+ruling (Finding (sought.Refused r)) = Refused
 ruling (Stepping ending) = endingOf ending
 
 -- a call of a list, and whether it was accepted
@@ -207,3 +203,5 @@ says p m (CountVerified q) = cond (eqb q p) (some (Counting (count.Blocks (count
 says p m (ListFaults row) = none
 says p m (SigningBlock signer buffer) = none
 says p m (SigningDigest signer buffer) = none
+says p m (ListNames row) = none
+says p m (FindFile folder name) = none

@@ -17,7 +17,8 @@ use Rattle.views.specs.Places.{partitions, committedView, stagedView}
 use Rattle.steps.specs.declared.Session.{Session}
 use Rattle.steps.specs.Sessions.{idle}
 use Rattle.steps.specs.Calls.{write}
-use Rattle.history.specs.Model.{versionOf, Accepted, Dropped, endingOf}
+use Rattle.history.specs.Model.{Accepted, Dropped, endingOf}
+use Rattle.views.specs.Versions.{versionOf}
 use Rattle.history.specs.Theorem.{Left}
 
 -- what a write to partition q that was not refused leaves of an image, whatever its digests are

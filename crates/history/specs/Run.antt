@@ -13,7 +13,8 @@ use Rattle.steps.specs.declared.Session.{Session}
 use Rattle.steps.specs.Calls.{After, readCommitted, readStaged, isVerified, countVerified, begin, write, commit, commitSigned, abandon}
 use Rattle.faults.specs.Faults.{countFaults, faults, rowAfter}
 use Rattle.signing.specs.Calls.{signed, builtAs, outcomeOf, blockLeft, digestLeft}
-use Rattle.history.specs.Model.{Form, Plain, Signed, Query, Open, ReadCommitted, ReadStaged, IsVerified, CountVerified, ListFaults, SigningBlock, SigningDigest, Call, Ask, Begin, Write, Commit, Abandon, Answer, Opening, Reading, Judging, Counting, Listing, Building, Digesting, Stepping, Ruling, Accepted, Refused, Dropped, ruling, Event, Did}
+use Rattle.history.specs.Model.{Form, Plain, Signed, Query, Open, ReadCommitted, ReadStaged, IsVerified, CountVerified, ListFaults, SigningBlock, SigningDigest, Call, Ask, Begin, Write, Commit, Abandon, Answer, Opening, Reading, Judging, Counting, Listing, Building, Digesting, Stepping, Ruling, Accepted, Refused, Dropped, ruling, Event, Did, ListNames, FindFile, Naming, Finding}
+use Rattle.save.specs.Calls.{listNames, findFile}
 
 pub record State : Type 0 where
   pub image : List ℕ
@@ -43,6 +44,8 @@ reply (CountVerified q) st = Counting (countVerified (st .image) q)
 reply (ListFaults row) st = Listing (countFaults (st .image)) (rowAfter (faults (st .image)) row)
 reply (SigningBlock signer buffer) st = Building (builtAs (signed (st .image) signer)) (blockLeft (signed (st .image) signer) buffer)
 reply (SigningDigest signer buffer) st = Digesting (outcomeOf (signed (st .image) signer)) (digestLeft (signed (st .image) signer) buffer)
+reply (ListNames row) st = Naming (listNames (st .image) row)
+reply (FindFile folder name) st = Finding (findFile (st .image) folder name)
 
 -- a call on a session
 abbrev pub stepped : After → Performed

@@ -25,7 +25,9 @@ use Rattle.faults.specs.Faults.{kept, faults, countFaults}
 use Rattle.faults.specs.Laws.{ofLevel}
 use Rattle.signing.specs.declared.Signer.{Signer}
 use Rattle.signing.specs.Calls.{signed, outcomeOf}
-use Rattle.history.specs.Model.{Version, versionOf, Form, Plain, Signed, Query, Call, Ask, Begin, Commit, Abandon, Answer, Stepping, Accepted, Event, Model, followed, unverified, says}
+use Rattle.history.specs.Model.{Form, Plain, Signed, Query, Call, Ask, Begin, Commit, Abandon, Answer, Stepping, Accepted, Event, Model, followed, unverified, says}
+use Rattle.save.specs.Calls.{holdsSave, namesOf, listNames, fileOf, findFile}
+use Rattle.views.specs.Versions.{Version, versionOf}
 use Rattle.history.specs.Run.{State, openedAs, perform, ruled, next, after, events, begins, commits, lastValue}
 
 -- an image that opens, with a partition p whose level 4 is internal
@@ -54,6 +56,9 @@ pub record Follows (p : ℕ) (st : State) (m : Model) : Type 0 where
   pub has : Has (st .image) p
   pub committed : committedIn has ≡ m .committed
   pub staged : (v : Version) → m .staged ≡ some v → stagedIn has ≡ v
+  -- where the container is one that holds a save, its names are those of the committed version
+  pub names : holdsSave (has .container) ≡ true → (row : List ℕ) → listNames (st .image) row ≡ namesOf (m .committed) row
+  pub finds : holdsSave (has .container) ≡ true → (folder : ℕ) (name : List ℕ) → findFile (st .image) folder name ≡ fileOf (m .committed) folder name
 
 -- the model starts with the view under the active table
 abbrev pub modelAfter : (p : ℕ) (st : State) → Start p st → List Call → Model
@@ -79,8 +84,8 @@ HistoryTheorem = (p : ℕ) (st : State) (start : Start p st) (calls : List Call)
 -- agrees with the list's first one on the bytes that are not free; once it has landed, it is the one that the commit left. The unit of a plain
 -- commit is its header, 0x100 to 0x1FF; that of a signed one the first 0x200 bytes.
 
--- opening, plain and under every key and signer, the committed reads and questions of every partition, the fault list, and signing, answer
--- alike
+-- opening, plain and under every key and signer, the committed reads and questions of every partition, the fault list, signing, and the names of
+-- a save answer alike
 pub record SameAnswers (image left : List ℕ) : Type 0 where
   pub opening : (form : Form) → openedAs form left ≡ openedAs form image
   pub reads : (q place : ℕ) (buffer : List ℕ) → readCommitted left q place buffer ≡ readCommitted image q place buffer
@@ -89,6 +94,8 @@ pub record SameAnswers (image left : List ℕ) : Type 0 where
   pub faultCount : countFaults left ≡ countFaults image
   pub faultList : faults left ≡ faults image
   pub signing : (signer : Signer) → signed left signer ≡ signed image signer
+  pub names : (row : List ℕ) → listNames left row ≡ listNames image row
+  pub finds : (folder : ℕ) (name : List ℕ) → findFile left folder name ≡ findFile image folder name
 
 -- an image that has another one's bytes where they are not free
 abbrev pub Left : Container → (image left : List ℕ) → Type 0

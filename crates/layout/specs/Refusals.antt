@@ -1,7 +1,7 @@
 -- The paper's number of each refusal, and the value that it carries.
 use Prim.Native.Nat.{ℕ}
 use Rattle.layout.specs.declared.Refusal.{Refusal}
-use Rattle.layout.specs.declared.Refusal.the-variants.{Length, Format, Selection, Geometry, TableHash, Descriptor, Placement, NoPartition, OutOfRange, Unverified, ExternalLevel, SessionState, Stale, SignerKind, Signature, DigestTooLong}
+use Rattle.layout.specs.declared.Refusal.the-variants.{Length, Format, Selection, Geometry, TableHash, Descriptor, Placement, NoPartition, OutOfRange, Unverified, ExternalLevel, SessionState, Stale, SignerKind, Signature, DigestTooLong, InvalidEntry, NoSave}
 
 abbrev pub number : Refusal → ℕ
 number Length = 1
@@ -19,6 +19,8 @@ number SessionState = 13
 number Stale = 14
 number SignerKind = 15
 number Signature = 16
+number InvalidEntry = 18
+number NoSave = 19
 number DigestTooLong = 22
 
 -- 10 carries the lowest block number of level 4 to which it applies, others carry 0
@@ -38,4 +40,6 @@ carried SessionState = 0
 carried Stale = 0
 carried SignerKind = 0
 carried Signature = 0
+carried InvalidEntry = 0
+carried NoSave = 0
 carried DigestTooLong = 0

@@ -46,6 +46,10 @@ pub enum Refusal {
     SignerKind,
     // The first 16 bytes are not the signature.
     Signature,
+    // An entry of a save that the walk may not meet: no such number, met before, or too deep.
+    InvalidEntry,
+    // The image holds no save whose names can be listed.
+    NoSave,
     // A running digest whose total is, or would be, past the longest message.
     DigestTooLong,
 }

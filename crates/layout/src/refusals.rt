@@ -22,6 +22,8 @@ pub fn number_of(r: Refusal) -> u64
         Refusal::Stale => 14,
         Refusal::SignerKind => 15,
         Refusal::Signature => 16,
+        Refusal::InvalidEntry => 18,
+        Refusal::NoSave => 19,
         Refusal::DigestTooLong => 22,
     }
 }
@@ -46,6 +48,8 @@ pub fn carried_by(r: Refusal) -> u64
         Refusal::Stale => 0,
         Refusal::SignerKind => 0,
         Refusal::Signature => 0,
+        Refusal::InvalidEntry => 0,
+        Refusal::NoSave => 0,
         Refusal::DigestTooLong => 0,
     }
 }

@@ -1,3 +1,4 @@
 pub mod PlaceLaws
 pub mod ProtectedLaws
 pub mod FitLaws
+pub mod FlagLaws

@@ -1,3 +1,4 @@
 pub mod Places
 pub mod Protected
 pub mod Rules
+pub mod Versions

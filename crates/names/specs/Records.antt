@@ -1,0 +1,27 @@
+-- The lent row: records of 24 bytes, each the kind (0 folder, 1 file) and the entry number, of 4 bytes each with the least significant first, and
+-- the 16 name bytes.
+use Prim.Native.Nat.{ℕ, suc, _+_, _*_, _/_, _%_}
+use mathlib.Core.Bool.{cond}
+use mathlib.Core.List.{List, [], _∷_, _++_}
+use lib.Dec.{ltb}
+use lib.ListN.{length}
+use lib.Seq.{sets}
+use Rattle.names.specs.declared.Save.{Save}
+use Rattle.names.specs.Entries.{name}
+use Rattle.names.specs.Listing.{Entry, folder, file}
+
+abbrev pub head : (kind e : ℕ) → List ℕ
+head kind e = kind ∷ 0 ∷ 0 ∷ 0 ∷ e % 0x100 ∷ e / 0x100 % 0x100 ∷ e / 0x10000 % 0x100 ∷ e / 0x1000000 % 0x100 ∷ []
+
+unfoldable pub entryRecord : Save → List ℕ → Entry → List ℕ
+entryRecord s level4 (folder e) = head 0 e ++ name (s .folders) level4 e
+entryRecord s level4 (file f) = head 1 f ++ name (s .files) level4 f
+
+-- the row with a record at place i, if it has room for it
+unfoldable pub putRecord : (row : List ℕ) → (i : ℕ) → List ℕ → List ℕ
+putRecord row i r = cond (ltb i (length row / 24)) (sets row (24 * i) r) row
+
+-- the row with the names met, the latest first, as far as it has room
+unfoldable pub laid : Save → List ℕ → (row : List ℕ) → List Entry → List ℕ
+laid s level4 row [] = row
+laid s level4 row (e ∷ met) = putRecord (laid s level4 row met) (length met) (entryRecord s level4 e)
