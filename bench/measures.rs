@@ -17,6 +17,8 @@ use crate::timing::{best_turns, per_call};
 
 extern "C" {
     fn teplovist_sha256(message: *const u8, length: usize, out: *mut u8);
+    fn teplovist_blank_length(blocks: u64) -> u64;
+    fn teplovist_make_blank(image: *mut u8, image_len: usize, kind: u64, blocks: u64) -> u64;
 }
 
 fn proved_digest(message: &[u8]) -> [u8; 32] {
@@ -31,6 +33,11 @@ pub const WRITTEN: usize = BLOCKS / 2 * BLOCK;
 const LONGEST_WRITE: usize = 64 * BLOCK;
 /// Where a single byte is in its block.
 pub const INSIDE: usize = 5;
+
+/// The hash levels of a blank image of so many blocks, 3 to 1: size and block size. Its blocks of one level are equal.
+const LEVELS: [(usize, usize); 3] = [(32 * BLOCKS, BLOCK), (1024, 512), (64, 512)];
+/// Its table.
+const TABLE: usize = 0x12C;
 
 /// Calls that take about a microsecond are timed so many at once, for the clock to weigh nothing.
 const SHORT_CALLS: usize = 50;
@@ -169,6 +176,27 @@ impl World {
     /// (b)'s turn at whole blocks.
     fn hash_all(&self, blocks: &[u8]) -> f64 {
         per_call(1, || blocks.chunks(BLOCK).for_each(|block| digest_once(self.plain, block)))
+    }
+
+    /// A blank image made over another one, against clearing as many bytes and hashing its hash levels block by block.
+    pub fn blank(&self) -> Option<Row> {
+        let blocks = BLOCKS as u64;
+        let mut images = [(); 2].map(|()| vec![1; unsafe { teplovist_blank_length(blocks) } as usize]);
+        let [made, cleared] = &mut images;
+        let mut make = || accepted(unsafe { teplovist_make_blank(made.as_mut_ptr(), made.len(), 0, blocks) });
+        let mut clear = || black_box(&mut *cleared).fill(0);
+        let [time, clearing, hashing] = best_turns([
+            &mut || per_call(1, &mut make),
+            &mut || per_call(1, &mut clear),
+            &mut || per_call(1, || LEVELS.iter().for_each(|&(size, block)| self.hash_level(size, block))),
+        ]);
+        let must_hash = BLOCK + LEVELS.iter().map(|&(size, block)| size.min(block)).sum::<usize>() + TABLE;
+        Some(Row { time, time_of_a: None, time_of_b: clearing + hashing, asked: 0, must_hash, a_hashes: None })
+    }
+
+    /// (b)'s turn at a hash level: at as many bytes, cut into its blocks.
+    fn hash_level(&self, size: usize, block: usize) {
+        self.data[..size].chunks(block).for_each(|bytes| digest_once(self.plain, bytes));
     }
 
     /// A call for which a session is begun each time, untimed.

@@ -6,9 +6,10 @@ use crate::measures::{World, BLOCKS, INSIDE, WRITTEN};
 pub const DIGEST_OF_BLOCK: &str = "digest of 4 KiB";
 pub const LONG_READ: &str = "verified read of 4096 blocks";
 pub const LONG_WRITE: &str = "write of 64 blocks";
+pub const BLANK: &str = "blank image of 4096 blocks";
 
 /// A row's name, and how it is measured; nothing comes of it if openssl is missing.
-pub const ROWS: [(&str, fn(&World) -> Option<Row>); 17] = [
+pub const ROWS: [(&str, fn(&World) -> Option<Row>); 18] = [
     ("digest of 32 B", |world| world.digest(32, 1000)),
     (DIGEST_OF_BLOCK, |world| world.digest(BLOCK, 10)),
     ("digest of 1 MiB", |world| world.digest(1 << 20, 1)),
@@ -26,6 +27,7 @@ pub const ROWS: [(&str, fn(&World) -> Option<Row>); 17] = [
     ("commit", |world| world.commit()),
     ("listing of 10,000 files", |world| world.listing(10_000)),
     ("finding 1 of 10,000 files", |world| world.finding(10_000)),
+    (BLANK, |world| world.blank()),
 ];
 
 /// Best times in nanoseconds, and bytes hashed.
@@ -33,8 +35,8 @@ pub struct Row {
     /// Of the proved library; in the rows of (c), of openssl.
     pub time: f64,
     pub time_of_a: Option<f64>,
-    /// Of (b) for hashing once what the call is about: the message; the table, of a commit both; else the blocks of
-    /// level 4 that it touches, one by one.
+    /// Of (b) for hashing once what the call is about: the message; the table, of a commit both; of a blank image the
+    /// hash levels, and clearing the image; else the blocks of level 4 that it touches, one by one.
     pub time_of_b: f64,
     /// How many bytes the caller asks for; 0 if the call is not about bytes.
     pub asked: usize,

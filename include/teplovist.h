@@ -29,8 +29,8 @@ extern "C" {
  * accepted teplovist_verified 1 for yes and 0 for no, for an accepted teplovist_count_verified the count, for an accepted teplovist_faults
  * the number of all faults, for an accepted teplovist_signing_block the block's length, for an accepted teplovist_list_names the number of
  * names, for an accepted teplovist_find_file the file's entry number or 0 for none, for the refusal 10 the lowest block of level 4 to which
- * it applies, and else 0. The first check that fails decides; a call that is refused changes nothing, but for a write's 17: it ends the
- * session.
+ * it applies, and else 0. The first check that fails decides; a call that is refused changes nothing, but for 17: a write's ends the
+ * session, and that of a blank image leaves zeros.
  */
 #define TEPLOVIST_REFUSAL(answer) ((unsigned)((answer) & 0xFF))
 #define TEPLOVIST_VALUE(answer) ((uint64_t)(answer) >> 8)
@@ -52,9 +52,10 @@ enum {
     TEPLOVIST_STALE = 14,           /* the header or the inactive table is not as the session left it */
     TEPLOVIST_SIGNER_KIND = 15,     /* the container's kind does not fit the signer's type */
     TEPLOVIST_SIGNATURE = 16,       /* the first 16 bytes are not the signature */
-    TEPLOVIST_ZERO_DIGEST = 17,     /* write: a digest that the finished write would hold is all zero; the session is idle */
+    TEPLOVIST_ZERO_DIGEST = 17,     /* a digest that the finished write, or the blank image, would hold is all zero */
     TEPLOVIST_INVALID_ENTRY = 18,   /* names: an entry number that is not in use, an entry met twice, or a folder that is too deep */
     TEPLOVIST_NO_SAVE = 19,         /* names: another kind of container, or no SAVE header whose tables lie in level 4 */
+    TEPLOVIST_BLANK_SIZE = 20,      /* blank image: not 1 to 4096 blocks, or the lent image is not just as long */
     TEPLOVIST_DIGEST_TOO_LONG = 22  /* a running digest was fed, or would be, more than 2^61 - 1 bytes */
 };
 
@@ -159,7 +160,8 @@ enum {
 
 /*
  * The calls from teplovist_open to teplovist_find_file, but for teplovist_abandon, open the image first and may be refused with 1
- * to 7. teplovist_abandon and the calls on a running digest take no image; the two calls for a signer look at its length and its header alone.
+ * to 7. teplovist_abandon and the calls on a running digest take no image; the two calls for a signer look at its length and its header alone,
+ * and the call for a blank image at its length.
  */
 
 /* Opens an image and stores its 80 numbers. Refusals: 1 to 7. */
@@ -272,6 +274,17 @@ uint64_t teplovist_digest_feed(uint8_t *state, const uint8_t *piece, size_t piec
 
 /* Stores the digest of what was fed, 32 bytes. The running digest is only read, and may be fed further. Refusals: 22. */
 uint64_t teplovist_digest_finish(const uint8_t *state, uint8_t *digest);
+
+/* How many bytes to lend for a blank image of 1 to 4096 blocks, and 0 for any other number of blocks. It is no answer, but the number itself. */
+uint64_t teplovist_blank_length(uint64_t blocks);
+
+/*
+ * Makes the lent image a blank one, whatever its bytes are: one partition, whose internal level 4 has so many blocks of 0x1000 bytes, all zero
+ * and verified. It opens and takes sessions; it is not signed, its first 0x100 bytes are zero. The kind counts modulo 2: 0 for DISA, 1 for
+ * DIFF. Refusals: 20 if the number of blocks is not 1 to 4096 or the length is not teplovist_blank_length of it, and no byte changes; then 17,
+ * and every byte is zero.
+ */
+uint64_t teplovist_make_blank(uint8_t *image, size_t image_length, uint64_t kind, uint64_t blocks);
 
 #ifdef __cplusplus
 }

@@ -33,6 +33,7 @@ prints 'a DISA of one partition' samples/disa-one.img DISA 'partitions 1' 'table
 prints 'a DIFF' samples/diff.img DIFF 'partitions 1' 'table primary' 'A level4 2500 blocks 5 stands 5'
 prints 'two partitions' samples/disa-two.img DISA 'partitions 2' 'table secondary' \
     'A level4 5000 blocks 20 stands 15' 'B level4 5000 blocks 20 stands 20'
+prints 'a blank image' samples/blank.img DISA 'partitions 1' 'table primary' 'A level4 8192 blocks 2 stands 2'
 prints 'external level 4' samples/external.img DIFF 'partitions 1' 'table secondary' 'A level4 3000 blocks 3 stands 3'
 
 # The longest input: bytes that no field names may follow.

@@ -7,6 +7,7 @@ STAGING = 'dpfs/src/staging.rt'
 SESSIONS = 'container/src/sessions.rt'
 RUNS = 'number/src/runs.rt'
 GATEWAY = 'gateway/src/lib.rt'
+MAKING = 'blank/src/making.rt'
 
 
 def lines(*texts):
@@ -165,7 +166,17 @@ OTHER_COMMITS = [
         BEGUN, 'switch_tables(image, c);', 'switch_tables(image, c);')]}),
 ]
 
-EDITS = OTHER_STORES + OTHER_SPACES + OTHER_COMMITS
+OTHER_BLANKS = [
+    ('a begin that makes a blank image', 'container::sessions::begin reaches blank::', {
+        SESSIONS: [before(BEGUN, 'blank::making::make_blank(image, layout::Kind::Disa, 1);')]}),
+    ('a read that makes a blank image of a copy', 'gateway::teplovist_verified reaches blank::', {GATEWAY: [before(
+        lines('verdict_answer(reading::verified(image, partition, block))'), 'let mut copy = [0u8; 0x6000];',
+        'making::make_blank(&mut copy, layout::Kind::Disa, 1);')]}),
+    ('a store of a blank image elsewhere', 'make_blank: the image is stored to by', {MAKING: [(
+        lines('clear(image);', 'if fill(image, kind, n) {'), lines('clear(image);', 'image[0] = 0;', 'if fill(image, kind, n) {'))]}),
+]
+
+EDITS = OTHER_STORES + OTHER_SPACES + OTHER_COMMITS + OTHER_BLANKS
 
 # Forms of MIR, and what is put for the first of each: nothing that the compiler writes today, or what could hide a store.
 FORMS = [

@@ -6,7 +6,9 @@
    The functions at the ends are compared statement by statement.
 2. A space is made by views::places::space_of alone, of a container that layout makes, when it opens the image that the call was lent, whole.
    Nobody changes a field of one, or takes its address.
-3. The contracts that this rests on stand as they are written here."""
+3. The contracts that this rests on stand as they are written here.
+4. One call is an exception to 1 and 2: making a blank image stores to every byte of the image that it is lent. 02, W12 says so: "01's list of bytes
+   that only commit changes doesn't bind this call". Its stores are in three functions, and no other call reaches a function of its crate."""
 import re
 
 from flow import Flow, Flows, whole_slices
@@ -23,9 +25,15 @@ UNITS = {
 }
 SESSION_CALLS = ['begin', 'write', *UNITS]
 
-# The parameters of the public calls that are lent `&mut`, and what they are. Each function of container and each call of the C boundary is listed
-# where it has one.
+# The exception: its crate, and the functions that store to the image.
+BLANK = 'make_blank'
+BLANK_CRATE = 'blank'
+BLANK_STORES = {'blank::making::clear', 'signing::blocks::put_field', COPY}
+
+# The parameters of the public calls that are lent `&mut`, and what they are. Each function of container and of blank::making, and each call of the
+# C boundary, is listed where it has one.
 LENT = {
+    'blank::making::make_blank': {1: 'image'},
     'container::blocks::signing_block': {3: 'block'},
     'container::blocks::signing_digest': {3: 'digest'},
     'container::reading::faults': {2: 'row'},
@@ -47,6 +55,7 @@ LENT = {
     'gateway::teplovist_abandon': {1: 'session'},
     'gateway::teplovist_signing_block': {3: 'block'},
     'gateway::teplovist_signing_digest': {3: 'digest'},
+    'gateway::teplovist_make_blank': {1: 'image'},
     'gateway::teplovist_digest_start': {1: 'state'},
     'gateway::teplovist_digest_feed': {1: 'state'},
     'gateway::teplovist_digest_finish': {2: 'digest'},
@@ -139,6 +148,7 @@ class Findings:
         for name in SESSION_CALLS:
             self.stores_of(name)
             self.opened_image(name)
+        self.blank_stores()
         self.reads()
         self.apart()
         self.guarded_types()
@@ -148,8 +158,11 @@ class Findings:
     # ---- the functions at both ends
 
     def public(self):
-        """The calls of container and of the C boundary."""
-        return [one for name, one in sorted(self.program.functions.items()) if name.startswith(('container::', 'gateway::teplovist_'))]
+        """The calls of container, those for blank images, and those of the C boundary."""
+        return [one for name, one in sorted(self.program.functions.items()) if self.is_public(name)]
+
+    def is_public(self, name):
+        return name.startswith(('container::', 'gateway::teplovist_')) or name in ('blank::making::make_blank', 'blank::making::blank_length')
 
     def lent_parameters(self):
         for function in self.public():
@@ -208,6 +221,17 @@ class Findings:
             self.rule(found == [before] * calls, f'{name}: {after} is to have the image from {wanted}, in {before} and in no loop; it has it from {found}')
         lent = sorted(flows.links())
         self.rule(lent == sorted((before, after) for before, after, _ in links), f'{name}: hands the image on by &mut beside the way to its unit: {lent}')
+
+    def blank_stores(self):
+        """The exception's stores, and that it is one: who else reaches its crate."""
+        root = f'gateway::teplovist_{BLANK}'
+        found = {key[0] for key in Flows(self.program, root, 1).stores()}
+        self.rule(found == BLANK_STORES, f'{BLANK}: the image is stored to by {sorted(found)}; expected {sorted(BLANK_STORES)}')
+        for function in self.public():
+            if function.crate() == 'gateway' and function.name not in (root, 'gateway::teplovist_blank_length') or function.crate() == 'container':
+                reached = sorted(one for one in self.program.reached_from([function.name]) if one.startswith(f'{BLANK_CRATE}::'))
+                self.rule(not reached, f'{function.name} reaches {", ".join(reached)}, which stores where only {BLANK} may')
+        self.said.append(f'{BLANK} stores to the image in {", ".join(sorted(found))}, and no other call reaches crate {BLANK_CRATE}')
 
     def reads(self):
         """No call that is lent an image by `&` stores to it."""

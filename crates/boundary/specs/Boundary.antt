@@ -120,6 +120,10 @@ abbrev pub kindNumber : Kind → ℕ
 kindNumber Disa = 0
 kindNumber Diff = 1
 
+-- the other way, a kind's number counts modulo 2
+abbrev pub kindOf : ℕ → Kind
+kindOf number = cond (eqb (number % 2) 0) Disa Diff
+
 -- 8 for the header
 unfoldable pub headerNumbers : Header → List ℕ
 headerNumbers h = kindNumber (h .kind) ∷ h .count ∷ h .flag ∷ rangeNumbers (h .secondary) ++ rangeNumbers (h .primary) ++ 0 ∷ []

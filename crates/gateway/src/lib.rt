@@ -1,5 +1,6 @@
 // The calls for programs in C and other languages, as include/teplovist.h describes them: numbers and bytes go in and out. None asks
 // anything of its caller but pointers that are good.
+use blank::making;
 use boundary::answers::built_answer;
 use boundary::answers::count_answer;
 use boundary::answers::ending_answer;
@@ -13,6 +14,7 @@ use boundary::digests::digest_left;
 use boundary::digests::running_of;
 use boundary::digests::state_bytes;
 use boundary::digests::state_left;
+use boundary::kinds::kind_of;
 use boundary::memory::session_left;
 use boundary::memory::session_of;
 use boundary::memory::write_left;
@@ -33,8 +35,9 @@ ghost use Rattle.sha256.specs.Running.{stateOf, fresh};
 ghost use Rattle.signing.specs.Calls.{signed, outcomeOf, builtAs, blockLeft, digestLeft};
 ghost use Rattle.signatures.specs.Signatures.{openedSigned};
 ghost use Rattle.steps.specs.Calls as calls;
-ghost use Rattle.boundary.specs.Boundary.{outcomeAnswer, endingAnswer, verdictAnswer, countAnswer, openedAnswer, descriptionLeft, sessionOf, sessionLeft, writeLeft, Called, listedAnswer, soughtAnswer};
+ghost use Rattle.boundary.specs.Boundary.{outcomeAnswer, endingAnswer, verdictAnswer, countAnswer, openedAnswer, descriptionLeft, sessionOf, sessionLeft, writeLeft, Called, listedAnswer, soughtAnswer, kindOf};
 ghost use Rattle.save.specs.Calls.{listNames, findFile};
+ghost use Rattle.blank.specs.Making.{blankLength, made};
 ghost use Rattle.boundary.specs.Digests.{runningOf, FedBytes, FinishedBytes};
 ghost use Rattle.boundary.specs.Signers.{signerOf, builtAnswer};
 
@@ -271,4 +274,20 @@ pub extern "C" fn teplovist_digest_finish(state: &[u8; 104], digest: &mut [u8; 3
     *digest = digest_left(finished, before);
     let outcome = finished.outcome;
     outcome_answer(outcome)
+}
+
+// How long the image must be that is lent for a blank one.
+#[no_mangle]
+pub extern "C" fn teplovist_blank_length(blocks: u64) -> u64
+    ensures { λ r. ⌜ r ≡ blankLength blocks ⌝ }
+{
+    making::blank_length(blocks)
+}
+
+// Makes a lent image a blank one.
+#[no_mangle]
+pub extern "C" fn teplovist_make_blank(image: &mut [u8], kind: u64, blocks: u64) -> u64
+    ensures { λ r. ⌜ (r ≡ endingAnswer (made (now (image .entry)) (kindOf kind) blocks .outcome)) × (now (image .exit) ≡ made (now (image .entry)) (kindOf kind) blocks .image) ⌝ }
+{
+    ending_answer(making::make_blank(image, kind_of(kind), blocks))
 }

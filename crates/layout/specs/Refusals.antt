@@ -1,7 +1,7 @@
 -- The paper's number of each refusal, and the value that it carries.
 use Prim.Native.Nat.{ℕ}
 use Rattle.layout.specs.declared.Refusal.{Refusal}
-use Rattle.layout.specs.declared.Refusal.the-variants.{Length, Format, Selection, Geometry, TableHash, Descriptor, Placement, NoPartition, OutOfRange, Unverified, ExternalLevel, SessionState, Stale, SignerKind, Signature, DigestTooLong, InvalidEntry, NoSave}
+use Rattle.layout.specs.declared.Refusal.the-variants.{Length, Format, Selection, Geometry, TableHash, Descriptor, Placement, NoPartition, OutOfRange, Unverified, ExternalLevel, SessionState, Stale, SignerKind, Signature, DigestTooLong, InvalidEntry, NoSave, BlankSize}
 
 abbrev pub number : Refusal → ℕ
 number Length = 1
@@ -21,6 +21,7 @@ number SignerKind = 15
 number Signature = 16
 number InvalidEntry = 18
 number NoSave = 19
+number BlankSize = 20
 number DigestTooLong = 22
 
 -- 10 carries the lowest block number of level 4 to which it applies, others carry 0
@@ -42,4 +43,5 @@ carried SignerKind = 0
 carried Signature = 0
 carried InvalidEntry = 0
 carried NoSave = 0
+carried BlankSize = 0
 carried DigestTooLong = 0

@@ -50,6 +50,8 @@ pub enum Refusal {
     InvalidEntry,
     // The image holds no save whose names can be listed.
     NoSave,
+    // A blank image of no such number of blocks, or a lent image that is not just as long.
+    BlankSize,
     // A running digest whose total is, or would be, past the longest message.
     DigestTooLong,
 }

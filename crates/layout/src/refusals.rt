@@ -24,6 +24,7 @@ pub fn number_of(r: Refusal) -> u64
         Refusal::Signature => 16,
         Refusal::InvalidEntry => 18,
         Refusal::NoSave => 19,
+        Refusal::BlankSize => 20,
         Refusal::DigestTooLong => 22,
     }
 }
@@ -50,6 +51,7 @@ pub fn carried_by(r: Refusal) -> u64
         Refusal::Signature => 0,
         Refusal::InvalidEntry => 0,
         Refusal::NoSave => 0,
+        Refusal::BlankSize => 0,
         Refusal::DigestTooLong => 0,
     }
 }

@@ -1,0 +1,6 @@
+pub mod SizeLaws
+pub mod ImageLaws
+pub mod StoreLaws
+pub mod HashLaws
+pub mod FillLaws
+pub mod MakeLaws

@@ -1,0 +1,9 @@
+pub mod FieldLaws
+pub mod RuleLaws
+pub mod OpenLaws
+pub mod ZeroLaws
+pub mod TreeLaws
+pub mod ViewLaws
+pub mod WholeLaws
+pub mod SessionLaws
+pub mod Closed

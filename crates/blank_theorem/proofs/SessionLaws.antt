@@ -1,0 +1,274 @@
+-- Calls on a blank image, and on what lists of calls make of it. Assumes nothing.
+use Prim.Native.Nat.{ℕ, zero, suc, _+_, _*_, _≤_, _<_}
+use mathlib.Core.Bool.{Bool, true, false, _||_, cond, or-true, true≢false}
+use mathlib.Core.List.{List}
+use mathlib.Core.Logic.{_⊎_, inl, inr}
+use mathlib.Core.Option.{Option, none, some, Option·getD}
+use mathlib.Core.Path.{_≡_, refl, sym, ap, _∙_, subst}
+use native.Mathlib.Omega.{arith}
+use native.Mathlib.Decide.{decLt}
+use native.Mathlib.Numerals.{add-one}
+use lib.ListN.{length, length-replicate}
+use lib.Dec.{ltb}
+use borrow.Author.Tests.{le-leb, lt-ltb}
+use Rattle.number.specs.declared.Level.{Level}
+use Rattle.number.specs.Blocks.{blocks, blockOf, lastBlock}
+use Rattle.number.specs.Bytes.{bytes}
+use Rattle.number.proofs.ListLaws.{bytes-is, bytes-cong}
+use Rattle.layout.specs.declared.Kind.{Kind}
+use Rattle.layout.specs.declared.Container.{Container}
+use Rattle.layout.specs.declared.Outcome.{Outcome}
+use Rattle.layout.specs.declared.Outcome.the-variants as outcome
+use Rattle.layout.specs.declared.Refusal.{Refusal}
+use Rattle.layout.specs.declared.Refusal.the-variants.{Unverified, NoPartition, ExternalLevel, SessionState, Stale}
+use Rattle.layout.specs.declared.Opened.{Opened}
+use Rattle.layout.specs.declared.Opened.the-variants.{Valid}
+use Rattle.layout.specs.Opening.{opened}
+use Rattle.ivfc.specs.declared.View.{View}
+use Rattle.ivfc.specs.Verified.{firstNot, countOf}
+use Rattle.ivfc.specs.Views.{levelOf, contentOf, verified}
+use Rattle.ivfc.proofs.LowestLaws.{Lowest, first-lowest}
+use Rattle.update.specs.Covering.{covered}
+use Rattle.update.specs.Staged.{writtenTo, holdsZero}
+use Rattle.views.specs.Places.{committedView, stagedView, viewIn, partitions, partitionOf}
+use Rattle.steps.specs.declared.Count.the-variants as count
+use Rattle.steps.specs.declared.Ending.the-variants as ending
+use Rattle.steps.specs.declared.Session.{Session}
+use Rattle.steps.specs.Reading.{refuseLowest, readOutcome, readFrom, Read, filled, countIn}
+use Rattle.steps.specs.Sessions.{idle, current, endsOutcome, writeOutcome}
+use Rattle.steps.specs.Calls.{readIn, readCommitted, countVerifiedIn, countVerified, After, unchanged, done, finished, leaving, inSession, writeOn, write, unread}
+use Rattle.steps.proofs.ReadLaws.{first-last, none-refused, nothing-touched, inside-passes, last-exists}
+use Rattle.history.specs.Model.{Version, versionOf, Call, Write, Ruling, Accepted, Dropped, endingOf, Model, followed}
+use Rattle.history.specs.Run.{State, perform, ruled, after, events, begins, commits, lastValue}
+use Rattle.history.specs.Theorem.{Has, Start, committedIn, Landed}
+use Rattle.history.proofs.Calls.{call-laws}
+use Rattle.history.proofs.CallCases.{idle-rests}
+use Rattle.history.proofs.Following.{Tracks, Agrees, agrees-on, agrees-first}
+use Rattle.history.proofs.Demand.{demand3}
+use Rattle.blank.specs.Sizes.{ivfc4}
+use Rattle.blank.specs.Image.{zeros, image}
+use Rattle.blank.proofs.ImageLaws.{zeros-byte}
+use Rattle.blank_theorem.specs.Theorem.{headerOf, partition, container, Blank}
+use Rattle.blank_theorem.specs.Sessions.{fresh, Takes}
+use Rattle.blank_theorem.proofs.WholeLaws.{WholeModel, WholeStaged, Shows, shows, whole-of, followed-whole}
+
+-- ---- where every block passes, no call is refused for one
+
+module _ (P : ℕ → Bool) (refusal : ℕ → Refusal) (view : View) (place n : ℕ) (next : Outcome) (fits : place + n ≤ view .level4 .size)
+    (all : (b : ℕ) → b < blocks (view .level4) → P b ≡ true) where
+  past : (more : 0 < n) (r : ℕ) → Lowest P (blockOf (view .level4) place) (lastBlock (view .level4) place n) r → lastBlock (view .level4) place n < r
+  past more r low = go (decLt (lastBlock (view .level4) place n) r)
+    where
+      go : Dec (lastBlock (view .level4) place n < r) → lastBlock (view .level4) place n < r
+      go (yes p) = p
+      go (no p) =
+          absurd (true≢false (sym (all r (omega (arith, last-exists view place n more fits))) ∙ low .here (omega arith)))
+
+  all-pass : refuseLowest P refusal view place n next ≡ next
+  all-pass = go (decLt 0 n)
+    where
+      go : Dec (0 < n) → refuseLowest P refusal view place n next ≡ next
+      go (no p) = nothing-touched P refusal view place n next (omega arith)
+      go (yes p) =
+          none-refused P refusal view place n _ next p refl
+          (past p _ (first-lowest P (blockOf (view .level4) place) (lastBlock (view .level4) place n) (first-last (view .level4) place n p)))
+
+count-all : (P : ℕ → Bool) (n : ℕ) → ((b : ℕ) → b < n → P b ≡ true) → countOf P n ≡ n
+unfolding countOf
+count-all P zero all = refl
+count-all P (suc n) all =
+    let e : countOf P n ≡ n = count-all P n (λ b h. all b (omega arith)) in
+    rw (all n (omega arith), e) (add-one n)
+
+module _ (view : View) (s : List ℕ) (all : (b : ℕ) → b < blocks (view .level4) → verified view s 4 b ≡ true)
+    (place n : ℕ) (fits : place + n ≤ view .level4 .size) where
+  read-passes : readOutcome view s place n ≡ outcome.Accepted
+  unfolding readOutcome
+  read-passes =
+      inside-passes view place n _ (le-leb (place + n) (view .level4 .size) fits)
+      ∙ all-pass (verified view s 4) Unverified view place n outcome.Accepted fits all
+
+  write-passes : writeOutcome view s place n ≡ outcome.Accepted
+  unfolding writeOutcome endsOutcome
+  write-passes =
+      inside-passes view place n _ (le-leb (place + n) (view .level4 .size) fits)
+      ∙ all-pass (λ (b : ℕ). covered (view .level4) place n b || verified view s 4 b) Unverified view place n outcome.Accepted fits
+      (λ b h. ap (λ (x : Bool). covered (view .level4) place n b || x) (all b h) ∙ or-true (covered (view .level4) place n b))
+
+-- ---- a read and a write of a partition that is there
+
+module _ (s : List ℕ) (c : Container) (o : opened s ≡ Valid c) (there : 0 < partitions c) where
+  read-shown : (all : (b : ℕ) → b < blocks (committedView c 0 .level4) → verified (committedView c 0) s 4 b ≡ true) (place : ℕ) (buffer : List ℕ)
+      → place + length buffer ≤ committedView c 0 .level4 .size
+      → readCommitted s 0 place buffer ≡ record { outcome = outcome.Accepted; buffer = bytes (contentOf (committedView c 0) s 4) place (length buffer) }
+  unfolding readCommitted readFrom
+  read-shown all place buffer h =
+      ap (readIn s 0 place buffer) o
+      ∙ answered (ltb 0 (partitions c)) (readOutcome (committedView c 0) s place (length buffer)) (lt-ltb 0 (partitions c) there)
+      (read-passes (committedView c 0) s all place (length buffer) h)
+    where
+      answered : (t : Bool) (a : Outcome) → t ≡ true → a ≡ outcome.Accepted
+          → _≡_ {A = Read} (cond t (record { outcome = a; buffer = filled a buffer (bytes (contentOf (committedView c 0) s 4) place (length buffer)) }) (unread buffer NoPartition))
+          (record { outcome = outcome.Accepted; buffer = bytes (contentOf (committedView c 0) s 4) place (length buffer) })
+      answered t a p q = rw (p, q) refl
+
+  -- accepted, or dropped
+  write-shown : (session : Session) → session .begun ≡ true → current c s session ≡ true → stagedView c 0 .external ≡ false
+      → (all : (b : ℕ) → b < blocks (stagedView c 0 .level4) → verified (stagedView c 0) s 4 b ≡ true) (place : ℕ) (bytes : List ℕ)
+      → place + length bytes ≤ stagedView c 0 .level4 .size
+      → (endingOf (write s session 0 place bytes .outcome) ≡ Accepted) ⊎ (endingOf (write s session 0 place bytes .outcome) ≡ Dropped)
+  unfolding write finished
+  write-shown session b k i all place bytes h =
+      go (holdsZero (stagedView c 0) place bytes (writtenTo (stagedView c 0) place bytes s))
+      (ap (λ (x : Opened). endingOf (inSession s session (writeOn s session 0 place bytes) x .outcome)) o
+      ∙ answered (session .begun) (current c s session) (ltb 0 (partitions c)) (stagedView c 0 .external)
+      (holdsZero (stagedView c 0) place bytes (writtenTo (stagedView c 0) place bytes s)) (writeOutcome (stagedView c 0) s place (length bytes))
+      b k (lt-ltb 0 (partitions c) there) i (write-passes (stagedView c 0) s all place (length bytes) h))
+    where
+      last : List ℕ
+      last = writtenTo (stagedView c 0) place bytes s
+
+      answered : (t u q e z : Bool) (a : Outcome) → t ≡ true → u ≡ true → q ≡ true → e ≡ false → a ≡ outcome.Accepted
+          → endingOf (cond t (cond u (cond q (cond e (unchanged s session ExternalLevel)
+          (leaving a s session (cond z (record { outcome = ending.Dropped; image = last; session = idle }) (done last session))))
+          (unchanged s session NoPartition)) (unchanged s session Stale)) (unchanged s session SessionState) .outcome)
+          ≡ endingOf (cond z ending.Dropped ending.Accepted)
+      answered t u q e true a p0 p1 p2 p3 p4 = rw (p0, p1, p2, p3, p4) refl
+      answered t u q e false a p0 p1 p2 p3 p4 = rw (p0, p1, p2, p3, p4) refl
+
+      go : (z : Bool) → endingOf (write s session 0 place bytes .outcome) ≡ endingOf (cond z ending.Dropped ending.Accepted)
+          → (endingOf (write s session 0 place bytes .outcome) ≡ Accepted) ⊎ (endingOf (write s session 0 place bytes .outcome) ≡ Dropped)
+      go true e = inr e
+      go false e = inl e
+
+-- ---- the calls
+
+module _ (kind : Kind) (n : ℕ) (w : Blank kind n) where
+  abbrev c : Container
+  c = container kind n
+
+  abbrev st : State
+  st = fresh kind n
+
+  abbrev live : View
+  live = committedView c 0
+
+  one : 0 < partitions c
+  unfolding headerOf
+  one = omega arith
+
+  live4 : live .level4 ≡ ivfc4 n
+  unfolding committedView viewIn partitionOf partition
+  live4 = refl
+
+  live-four : live .level4 ≡ levelOf live 4
+  unfolding levelOf
+  live-four = refl
+
+  stands : (b : ℕ) → b < blocks (live .level4) → verified live (image kind n) 4 b ≡ true
+  stands b h = w .verifies 4 b (omega arith) (subst (λ (l : Level). b < blocks l) live-four h)
+
+  internal : partitionOf c 0 .difi .external ≡ false
+  unfolding partitionOf partition
+  internal = refl
+
+  abbrev start : Start 0 st
+  start = record { has = record { container = c; opens = w .opens; there = one; internal = internal }; idle = idle-rests }
+
+  reads : (place : ℕ) (buffer : List ℕ) → place + length buffer ≤ 0x1000 * n
+      → readCommitted (image kind n) 0 place buffer ≡ record { outcome = outcome.Accepted; buffer = zeros (length buffer) }
+  reads place buffer h =
+      read-shown (image kind n) c (w .opens) one stands place buffer (omega (arith, ap (λ (l : Level). l .size) live4))
+      ∙ ap (λ (l : List ℕ). record { outcome = outcome.Accepted; buffer = l })
+      (bytes-is (contentOf live (image kind n) 4) place (length buffer) (zeros (length buffer)) (length-replicate (length buffer) 0)
+      (λ k q. w .zero (place + k) (omega arith) ∙ sym (zeros-byte (length buffer) k)))
+
+  counts : countVerified (image kind n) 0 ≡ count.Blocks n
+  unfolding countVerified headerOf countIn
+  counts =
+      ap (countVerifiedIn (image kind n) 0) (w .opens)
+      ∙ ap count.Blocks (ap (countOf (verified live (image kind n) 4)) (w .count) ∙ count-all (verified live (image kind n) 4) n
+      (λ b h. stands b (omega (arith, w .count))))
+
+  -- ---- after any list
+
+  abbrev modelOf : List Call → Model
+  modelOf calls = followed 0 (events calls st) (record { committed = committedIn (start .has); staged = none })
+
+  agrees : (calls : List Call) → Agrees 0 (after calls st) (modelOf calls)
+  agrees calls = agrees-on call-laws 0 calls st (record { committed = committedIn (start .has); staged = none }) (agrees-first call-laws 0 st start)
+
+  whole : (calls : List Call) → WholeModel (ivfc4 n) (modelOf calls)
+  whole calls =
+      followed-whole (ivfc4 n) 0 (events calls st) (record { committed = committedIn (start .has); staged = none })
+      (whole-of (ivfc4 n) live (image kind n) live4 stands, tt)
+
+  internal-staged : {s : List ℕ} (has : Has s 0) → stagedView (has .container) 0 .external ≡ false
+  unfolding stagedView viewIn
+  internal-staged has = has .internal
+
+  writes : (calls : List Call) (place : ℕ) (bytes : List ℕ) → after calls st .session .begun ≡ true → place + length bytes ≤ 0x1000 * n
+      → (ruled (Write 0 place bytes) (after calls st) ≡ Accepted) ⊎ (ruled (Write 0 place bytes) (after calls st) ≡ Dropped)
+  unfolding perform
+  writes calls place bytes b h = go (modelOf calls .staged) (agrees calls .staged) (whole calls .1)
+    where
+      g : Agrees 0 (after calls st) (modelOf calls)
+      g = agrees calls
+
+      go : (o : Option Version) → Tracks (g .has) (after calls st .session) o → WholeStaged (ivfc4 n) o
+          → (endingOf (write (after calls st .image) (after calls st .session) 0 place bytes .outcome) ≡ Accepted)
+          ⊎ (endingOf (write (after calls st .image) (after calls st .session) 0 place bytes .outcome) ≡ Dropped)
+      go none t a = absurd (true≢false (sym b ∙ t))
+      go (some v) t a =
+          let seen = shows (ivfc4 n) (stagedView (g .has .container) 0) (after calls st .image) v (t .2) a in
+          write-shown (after calls st .image) (g .has .container) (g .has .opens) (g .has .there) (after calls st .session) (t .0) (t .1)
+          (internal-staged (g .has)) (seen .all) place bytes (omega (arith, ap (λ (l : Level). l .size) (seen .level)))
+
+  -- ---- after a commit
+
+  same-container : (s : List ℕ) (a b : Container) → opened s ≡ Valid a → opened s ≡ Valid b → a ≡ b
+  same-container s a b p q = cc
+
+  back : (calls : List Call) → begins (events calls st) ≤ 1 → 0 < commits (events calls st) → (place : ℕ) (buffer : List ℕ) → place + length buffer ≤ 0x1000 * n
+      → readCommitted (after calls st .image) 0 place buffer
+      ≡ record { outcome = outcome.Accepted; buffer = bytes (λ (i : ℕ). Option·getD (lastValue 0 i (events calls st)) 0) place (length buffer) }
+  back calls one-begin some-commit place buffer h =
+      read-shown s d (g .has .opens) (g .has .there) (seen .all) place buffer (omega (arith, ap (λ (l : Level). l .size) (seen .level)))
+      ∙ ap (λ (l : List ℕ). record { outcome = outcome.Accepted; buffer = l })
+      (bytes-cong (contentOf (committedView d 0) s 4) (λ (i : ℕ). Option·getD (lastValue 0 i (events calls st)) 0) place place (length buffer)
+      (λ k q. byte (place + k) (omega arith)))
+    where
+      s : List ℕ
+      s = after calls st .image
+
+      g : Agrees 0 (after calls st) (modelOf calls)
+      g = agrees calls
+
+      d : Container
+      d = g .has .container
+
+      seen : Shows (ivfc4 n) (committedView d 0) s
+      seen = shows (ivfc4 n) (committedView d 0) s (modelOf calls .committed) (g .committed) (whole calls .0)
+
+      landed : Landed 0 (events calls st) (image kind n) s (start .has)
+      landed = demand3 .landing .landed 0 st start calls one-begin some-commit
+
+      byte : (i : ℕ) → i < 0x1000 * n → contentOf (committedView d 0) s 4 i ≡ Option·getD (lastValue 0 i (events calls st)) 0
+      byte i p =
+          ap (λ (x : Container). contentOf (committedView x 0) s 4 i) (same-container s d (landed .new .container) (g .has .opens) (landed .new .opens))
+          ∙ by (lastValue 0 i (events calls st)) refl
+        where
+          by : (o : Option ℕ) → lastValue 0 i (events calls st) ≡ o → contentOf (committedView (landed .new .container) 0) s 4 i ≡ Option·getD o 0
+          by none e = landed .others i (omega (arith, ap (λ (l : Level). l .size) live4)) e ∙ w .zero i p
+          by (some value) e = landed .written i value e
+
+  pub takes : Takes kind n
+  takes = record {
+    reads = reads;
+    counts = counts;
+    starts = start;
+    begin = λ calls i. demand3 .progress .idle 0 st start calls i;
+    write = writes;
+    commit = λ calls b. demand3 .progress .begun 0 st start calls b .0;
+    back = back;
+  }
