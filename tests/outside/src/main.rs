@@ -13,12 +13,14 @@ use outside::program::{program_output, LONGEST_INPUT};
 use outside::stores::judge::judge;
 use outside::stores::prepare::{from_bytes, prepare, to_bytes, Prepared};
 use outside::subject::Subject;
+use outside::trial::blank::run_every_number;
 use outside::trial::tally::Tally;
 use outside::trial::{run_case, run_fixed_cases};
 
 const USAGE: &str = "usage:
   outside generate N [--seed S] [--folder F]   write N valid images into F (default target/images)
   outside check [--cases N] [--seed S]         run N random cases (default 3000) from seed S on (default 1)
+          [--every-blank yes]                  and make the blank image of every number of blocks
   outside samples [FOLDER]                     write the sample images (default samples at the repository's root)
   outside describe < IMAGE                     print what the describing program must print
   outside stores prepare FILE [--calls N] [--seed S]   write N calls (default 250) into FILE
@@ -109,6 +111,9 @@ fn check(arguments: &[String]) -> Result<(), String> {
     let start = Instant::now();
     let mut tally = Tally::default();
     run_fixed_cases(subject(), &mut tally).map_err(|complaint| format!("FAILED, fixed case: {complaint}"))?;
+    if flag(arguments, "--every-blank")?.is_some() {
+        run_every_number(subject(), &mut tally).map_err(|complaint| format!("FAILED, blank images: {complaint}"))?;
+    }
     for number in seed..seed + cases {
         run_case(number, subject(), &mut tally)
             .map_err(|complaint| format!("FAILED: {complaint}\nagain: outside check --cases 1 --seed {number}"))?;

@@ -1,6 +1,8 @@
 //! The reference model: what a caller may rely on over a whole list of calls, without images, hashes or copies.
 //! It follows one partition and is fed each call's name, its arguments and whether it was accepted.
 
+mod names;
+
 use crate::rules::refusal::Refusal;
 
 /// Level 4's bytes and which of its blocks are verified.

@@ -1,6 +1,12 @@
 //! Whatever claims to follow the rules, in the form of the library's boundary: an answer is one number (the refusal's
 //! number in the low eight bits, the value above), a session is 257 bytes, a key 16, a running digest 104.
 
+// With their paths, since bench/ takes this file in by its path and would look for them beside it.
+#[path = "subject/blank.rs"]
+pub mod blank;
+#[path = "subject/names.rs"]
+pub mod names;
+
 use crate::description::{describe, Description};
 use crate::rules::aes::Key;
 use crate::rules::calls;
@@ -11,8 +17,10 @@ use crate::rules::refusal::{answer_code, Refusal};
 use crate::rules::running::{Running, RunningBytes};
 use crate::rules::session::{Session, SessionBytes};
 use crate::rules::signing::{self, BlockBytes, Signer, SignerNumbers};
+use blank::Blanks;
+use names::Names;
 
-pub trait Subject {
+pub trait Subject: Blanks + Names {
     /// Does it take its hash of blocks from the rules, so that a stand-in reaches it?
     fn takes_stand_in(&self) -> bool;
     fn open(&self, image: &[u8], description: &mut Description) -> u64;

@@ -11,11 +11,14 @@ use outside::rules::dpfs::{bit_place, View};
 use outside::rules::extent::Extent;
 use outside::rules::faults::{faults, FaultRecord};
 use outside::rules::header::{B_FIELDS, HEADER, HEADER_LENGTH, LONGEST_IMAGE};
+use outside::rules::names::Name;
 use outside::rules::opening::open;
 use outside::rules::running::{Running, RunningBytes, LONGEST_MESSAGE, TOTAL, WAITING};
 use outside::rules::session::{SessionBytes, SESSION_LENGTH};
 use outside::rules::sha256::sha256;
 use outside::rules::signing::{signature, signing_block, BlockBytes, Signer, SignerNumbers, LONGEST_BLOCK};
+use outside::subject::blank::Blanks;
+use outside::subject::names::Names;
 use outside::subject::{Rules, Subject};
 use outside::trial::properties::{finish_write, rebuilt_extent, touched_on_each_level, Finished};
 use outside::trial::tally::{Tally, NUMBERS};
@@ -41,10 +44,13 @@ fn the_model_agrees_and_every_answer_occurs() {
         ("open signed", vec![15, 16]),
         ("commit signed", vec![13, 14, 15]),
         ("faults", vec![]),
+        ("list names", vec![10, 18, 19]),
+        ("find file", vec![10, 18, 19]),
     ];
     let signing = [("signing block", vec![0, 1, 2, 15]), ("signing digest", vec![0, 1, 2, 15])];
     let digests = [("digest start", vec![0]), ("digest feed", vec![0, 22]), ("digest finish", vec![0, 22])];
-    for (call, numbers) in signing.into_iter().chain(digests) {
+    let blanks = [("make blank", vec![0, 20])];
+    for (call, numbers) in signing.into_iter().chain(digests).chain(blanks) {
         for number in 0..NUMBERS {
             let occurs = tally.count(call, number) > 0;
             assert_eq!(occurs, numbers.contains(&number), "{call} and the answer {number}");
@@ -156,6 +162,28 @@ faults! {
 
 /// The model with one fault.
 struct Faulty(Fault);
+
+/// Faults of blank images are in tests/blank.rs.
+impl Blanks for Faulty {
+    fn blank_length(&self, blocks: u64) -> u64 {
+        Rules.blank_length(blocks)
+    }
+
+    fn make_blank(&self, image: &mut [u8], kind: u64, blocks: u64) -> u64 {
+        Rules.make_blank(image, kind, blocks)
+    }
+}
+
+/// Faults of names are in tests/names.rs.
+impl Names for Faulty {
+    fn list_names(&self, image: &[u8], row: &mut [u8]) -> u64 {
+        Rules.list_names(image, row)
+    }
+
+    fn find_file(&self, image: &[u8], folder: u64, name: &Name) -> u64 {
+        Rules.find_file(image, folder, name)
+    }
+}
 
 impl Subject for Faulty {
     fn takes_stand_in(&self) -> bool {

@@ -174,10 +174,10 @@ struct Filled {
 fn fill_partition(random: &mut Random, wanted: &Wanted, image: &mut [u8], partition: &Partition) -> Filled {
     let descriptor = &partition.descriptor;
     let [_, _, _, data_level] = descriptor.hash_levels;
-    let mut data = random.bytes(data_level.extent.size as usize);
-    if random.chance(15) {
-        data.fill(0);
-    }
+    let data = match &wanted.contents {
+        Some(contents) => contents.clone(),
+        None => choose_data(random, data_level.extent.size as usize),
+    };
     let faults = Faults::choose(random, wanted);
 
     // From level 4 upwards: the bytes of each level and, for each of its blocks, whether its entry matches.
@@ -220,6 +220,16 @@ fn fill_partition(random: &mut Random, wanted: &Wanted, image: &mut [u8], partit
     }
     scatter(image, partition, &level3);
     Filled { version: Version { bytes: data, verified }, hash_verified: [one, two, three], master }
+}
+
+/// Mostly noise, now and then zeros.
+fn choose_data(random: &mut Random, size: usize) -> Vec<u8> {
+    let data = random.bytes(size);
+    if random.chance(15) {
+        vec![0; size]
+    } else {
+        data
+    }
 }
 
 /// How entries go wrong.

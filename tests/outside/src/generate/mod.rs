@@ -4,6 +4,7 @@ pub mod contents;
 pub mod damage;
 pub mod random;
 pub mod samples;
+pub mod saves;
 pub mod shape;
 pub mod signing;
 

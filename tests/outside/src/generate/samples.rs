@@ -3,9 +3,10 @@
 use super::random::Random;
 use super::shape::Wanted;
 use super::valid_image;
+use crate::rules::blank::{blank_length, make_blank};
 use crate::rules::header::Kind;
 
-/// Name and bytes of each sample.
+/// Name and bytes of each sample. One is blank: a DISA of two blocks.
 pub fn samples() -> Vec<(&'static str, Vec<u8>)> {
     let loose = Wanted {
         external: Some(false),
@@ -41,5 +42,12 @@ pub fn samples() -> Vec<(&'static str, Vec<u8>)> {
         .into_iter()
         .enumerate()
         .map(|(index, (name, wanted))| (name, valid_image(&mut Random::new(index as u64 + 1), &wanted).image))
+        .chain([("blank.img", blank_image())])
         .collect()
+}
+
+fn blank_image() -> Vec<u8> {
+    let mut image = vec![0; blank_length(2).expect("two blocks are in range") as usize];
+    make_blank(&mut image, Kind::Disa, 2).expect("the length is right");
+    image
 }

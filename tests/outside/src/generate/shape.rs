@@ -21,6 +21,8 @@ pub struct Wanted {
     pub master_entries: Option<u64>,
     /// Leftovers in the padding behind each logarithm.
     pub leftovers: Option<bool>,
+    /// Each level 4's bytes; `data` must have their number.
+    pub contents: Option<Vec<u8>>,
     /// Up to so many spare entries and spare words of bits.
     pub spare: Option<u64>,
     /// As small as can be: no gaps, no spare entries, everything in the printed order.

@@ -1,6 +1,7 @@
 //! The container's rules, in the order of the paper.
 
 pub mod aes;
+pub mod blank;
 pub mod block_hash;
 pub mod calls;
 pub mod cmac;
@@ -11,6 +12,7 @@ pub mod extent;
 pub mod faults;
 pub mod header;
 pub mod ivfc;
+pub mod names;
 pub mod opening;
 pub mod protected;
 pub mod refusal;

@@ -32,8 +32,15 @@ pub enum Refusal {
     WrongSigner,
     /// 16: the first 16 bytes are not the signature.
     WrongSignature,
-    /// 17: a digest that the finished write would hold is all zero. The one refusal after which bytes may have changed.
+    /// 17: a digest that the finished write or a blank image would hold is all zero. The one refusal after which bytes may have
+    /// changed.
     ZeroDigest,
+    /// 18: a number out of range, an entry met twice, or a folder too deep, on a walk or along a chain.
+    BrokenTree,
+    /// 19: no SAVE image, or one whose header or places do not hold.
+    NotASave,
+    /// 20: a blank image's number of blocks, or its length.
+    BlankSize,
     /// 22: a running digest's message is or would become too long.
     MessageTooLong,
 }
@@ -57,6 +64,9 @@ impl Refusal {
             Refusal::WrongSigner => 15,
             Refusal::WrongSignature => 16,
             Refusal::ZeroDigest => 17,
+            Refusal::BrokenTree => 18,
+            Refusal::NotASave => 19,
+            Refusal::BlankSize => 20,
             Refusal::MessageTooLong => 22,
         }
     }

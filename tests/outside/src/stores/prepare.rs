@@ -11,6 +11,7 @@ use crate::rules::session::{Session, SessionBytes, SESSION_LENGTH};
 use crate::rules::signing::SignerNumbers;
 use crate::subject::Rules;
 use crate::trial::call::{Call, CALL_KINDS};
+use crate::trial::names::NamesCall;
 
 /// One call and all that it gets.
 #[derive(Clone, Debug)]
@@ -115,6 +116,8 @@ pub fn to_bytes(prepared: &[Prepared]) -> Vec<u8> {
             Call::OpenSigned { signing_key } => (11, [0, 0], &signing_key_bytes(signing_key)),
             Call::CommitSigned { signing_key } => (12, [0, 0], &signing_key_bytes(signing_key)),
             Call::Faults { room } => (13, [*room as u64, 0], &[]),
+            Call::Names(NamesCall::List { length }) => (14, [0, 0], &vec![0; *length]),
+            Call::Names(NamesCall::Find { folder, name }) => (15, [*folder, 0], name),
         };
         for number in [kind, numbers[0], numbers[1]] {
             bytes.extend_from_slice(&number.to_le_bytes());
@@ -153,7 +156,9 @@ pub fn from_bytes(mut bytes: &[u8]) -> Vec<Prepared> {
             10 => Call::SigningDigest { signer: signer_of(data) },
             11 => Call::OpenSigned { signing_key: signing_key_of(data) },
             12 => Call::CommitSigned { signing_key: signing_key_of(data) },
-            _ => Call::Faults { room: partition as usize },
+            13 => Call::Faults { room: partition as usize },
+            14 => Call::Names(NamesCall::List { length }),
+            _ => Call::Names(NamesCall::Find { folder: partition, name: data.try_into().expect("16 bytes") }),
         };
         prepared.push(Prepared { image, session, call });
     }

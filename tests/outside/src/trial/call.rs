@@ -1,5 +1,6 @@
 //! One call with its arguments, how it is chosen, and what it gives.
 
+use super::names::NamesCall;
 use crate::description::{Description, DESCRIPTION_LENGTH};
 use crate::generate::random::Random;
 use crate::generate::signing::{choose_signer, SigningKey};
@@ -53,6 +54,7 @@ pub enum Call {
     Faults {
         room: usize,
     },
+    Names(NamesCall),
 }
 
 impl std::fmt::Display for Call {
@@ -67,7 +69,7 @@ impl std::fmt::Display for Call {
 }
 
 /// How many kinds of calls there are.
-pub const CALL_KINDS: usize = 14;
+pub const CALL_KINDS: usize = 15;
 
 /// Everything that a call hands back besides image and session.
 #[derive(Clone, Debug, PartialEq, Eq)]
@@ -124,6 +126,7 @@ impl Call {
             Call::OpenSigned { .. } => "open signed",
             Call::CommitSigned { .. } => "commit signed",
             Call::Faults { .. } => "faults",
+            Call::Names(call) => call.name(),
         }
     }
 
@@ -132,6 +135,7 @@ impl Call {
             Call::ReadCommitted { length, .. } | Call::ReadStaged { length, .. } => *length,
             Call::SigningBlock { .. } => LONGEST_BLOCK,
             Call::SigningDigest { .. } => 32,
+            Call::Names(call) => call.row_length(),
             _ => 0,
         }
     }
@@ -176,6 +180,7 @@ impl Call {
                 subject.commit_signed(image, session, &signing_key.key, &signing_key.signer)
             }
             Call::Faults { .. } => subject.faults(image, &mut row),
+            Call::Names(call) => call.perform(subject, image, &mut buffer),
         };
         Outcome { answer, buffer, description, row }
     }
@@ -190,9 +195,9 @@ impl Call {
         begun: bool,
     ) -> Call {
         let shares: [u64; CALL_KINDS] = if begun {
-            [2, 10, 18, 6, 2, 3, 44, 7, 4, 4, 3, 4, 7, 5]
+            [2, 10, 18, 6, 2, 3, 44, 7, 4, 4, 3, 4, 7, 5, 2]
         } else {
-            [3, 20, 4, 14, 5, 40, 6, 4, 4, 6, 4, 12, 4, 10]
+            [3, 20, 4, 14, 5, 40, 6, 4, 4, 6, 4, 12, 4, 10, 5]
         };
         let mut share = random.below(shares.iter().sum());
         let mut number = 0;
@@ -236,7 +241,8 @@ impl Call {
             10 => Call::SigningDigest { signer: choose_signer(random) },
             11 => Call::OpenSigned { signing_key: signing_key.vary(random) },
             12 => Call::CommitSigned { signing_key: signing_key.vary(random) },
-            _ => Call::Faults { room: choose_room(random, faults(image).map_or(3, |list| list.len())) },
+            13 => Call::Faults { room: choose_room(random, faults(image).map_or(3, |list| list.len())) },
+            _ => Call::Names(NamesCall::choose(random, &[])),
         }
     }
 }

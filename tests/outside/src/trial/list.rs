@@ -3,6 +3,7 @@
 
 use super::call::{Call, Outcome, UNTOUCHED_DESCRIPTION};
 use super::faults::{check_row, list_of};
+use super::names::{begins_like_a_save, check_names, choose_small_write, NamesCall};
 use super::properties::{
     check_begin, check_commit, check_signed_commit, check_write, finish_write, require, touched_on_each_level,
 };
@@ -89,7 +90,7 @@ impl<'a> List<'a> {
             if random.chance(5) {
                 self.sign(random).map_err(|complaint| format!("after the host has signed: {complaint}"))?;
             }
-            let call = Call::choose(random, &self.image, Some(&self.opened), &self.signing_key, self.session[0] != 0);
+            let call = self.choose_call(random);
             let forged = random.chance(15);
             let mut session = if forged { self.forge_session(random) } else { self.session };
             self.try_call(&call, &mut session).map_err(|complaint| format!("{call}: {complaint}"))?;
@@ -109,6 +110,22 @@ impl<'a> List<'a> {
             self.session = session;
         }
         Ok(())
+    }
+
+    /// Any call; where there is a save, often one for its names or a write that changes little of it.
+    fn choose_call(&self, random: &mut Random) -> Call {
+        let level4 = &self.models[0].committed.bytes;
+        if begins_like_a_save(&self.opened, level4) {
+            match random.below(100) {
+                0..=29 => return Call::Names(NamesCall::choose(random, level4)),
+                30..=49 => {
+                    let (place, data) = choose_small_write(random, level4);
+                    return Call::Write { partition: 0, place, data };
+                }
+                _ => {}
+            }
+        }
+        Call::choose(random, &self.image, Some(&self.opened), &self.signing_key, self.session[0] != 0)
     }
 
     fn held(&self) -> bool {
@@ -148,6 +165,9 @@ impl<'a> List<'a> {
         self.check_subject(call, &before, &session_before, session, &outcome)?;
         self.check_prediction(call, &before, &session_before, &outcome)?;
         check_signing(&before, call, &outcome)?;
+        if let Call::Names(call) = call {
+            check_names(call, &self.opened, &self.models[0].committed, outcome.answer, &outcome.buffer)?;
+        }
         if outcome.accepted() {
             self.tally.rows += u64::from(touches_row(call, &self.image, &self.opened));
             self.check_accepted(call, &before, &session_before, session, &outcome)?;
@@ -216,6 +236,8 @@ impl<'a> List<'a> {
             Call::Begin | Call::Abandon => refused(Refusal::WrongSession),
             // The model knows no header and no hash blocks.
             Call::SigningBlock { .. } | Call::SigningDigest { .. } | Call::Faults { .. } => None,
+            // Said of the bytes and the row at once.
+            Call::Names(_) => None,
             Call::ReadCommitted { partition, .. }
             | Call::ReadStaged { partition, .. }
             | Call::Verified { partition, .. }

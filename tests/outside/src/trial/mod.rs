@@ -1,6 +1,7 @@
-//! Random cases: lists of calls on valid images, the same with digests of zeros, damaged images, images with random changes, signatures, blocks for
-//! signing, and running digests.
+//! Random cases: lists of calls on valid images, the same with digests of zeros, damaged images, images with random changes,
+//! signatures, blocks for signing, running digests, blank images, and names inside saves.
 
+pub mod blank;
 pub mod call;
 mod digest;
 pub mod faults;
@@ -8,8 +9,10 @@ mod fresh;
 mod full_bits;
 mod leftovers;
 pub mod list;
+pub mod names;
 pub mod properties;
 mod rows;
+pub mod saves;
 mod signatures;
 mod signing;
 pub mod tally;
@@ -26,11 +29,14 @@ use crate::rules::dpfs::View;
 use crate::rules::header::LONGEST_IMAGE;
 use crate::rules::opening::{open, Opened};
 use crate::rules::session::{Session, SessionBytes, SESSION_LENGTH};
+use crate::subject::names::Names;
 use crate::subject::{Rules, Subject};
+use blank::run_blank_case;
 use call::{Call, Outcome, CALL_KINDS, UNTOUCHED_DESCRIPTION};
 use digest::{run_digest_case, run_long_message};
 use list::{compare_subject, List};
 use properties::require;
+use saves::run_save_case;
 use signatures::{check_signed_opening, run_signature_cases, signed_answer};
 use signing::{check_signing, run_length_cases, run_signing_case};
 use tally::Tally;
@@ -39,7 +45,8 @@ use tally::Tally;
 pub fn run_case(seed: u64, subject: Option<&dyn Subject>, tally: &mut Tally) -> Result<(), String> {
     let random = &mut Random::new(seed);
     match random.below(100) {
-        0..=54 => {
+        0..=9 => run_save_case(random, subject, tally),
+        10..=54 => {
             let sample = valid_image(random, &Wanted::default());
             let calls = random.between(1, 30);
             List::new(random, sample, subject, tally).run(random, calls)
@@ -62,7 +69,8 @@ pub fn run_case(seed: u64, subject: Option<&dyn Subject>, tally: &mut Tally) -> 
             any_image(random, image, subject, tally)
         }
         87..=92 => run_signing_case(random, subject, tally),
-        _ => run_digest_case(random, subject, tally),
+        93..=97 => run_digest_case(random, subject, tally),
+        _ => run_blank_case(random, subject, tally),
     }
 }
 
@@ -70,7 +78,8 @@ pub fn run_case(seed: u64, subject: Option<&dyn Subject>, tally: &mut Tally) -> 
 const TRIES_OF_EACH_DAMAGE: u64 = 40;
 
 /// Cases that every run must have tried: each damage, levels of bits that are full, faults on every level, first writes on fresh
-/// ground, digests of zeros, leftovers in the header, the limits of an image's length, each bit of a signature, a long message.
+/// ground, digests of zeros, leftovers in the header, the limits of an image's length, each bit of a signature, a long
+/// message, blank images, saves of every form.
 pub fn run_fixed_cases(subject: Option<&dyn Subject>, tally: &mut Tally) -> Result<(), String> {
     let random = &mut Random::new(0);
     for damage in DAMAGES {
@@ -96,7 +105,10 @@ pub fn run_fixed_cases(subject: Option<&dyn Subject>, tally: &mut Tally) -> Resu
     }
     run_length_cases(subject, tally)?;
     run_signature_cases(subject).map_err(|complaint| format!("signatures: {complaint}"))?;
-    run_long_message(subject, tally).map_err(|complaint| format!("a million letters: {complaint}"))
+    run_long_message(subject, tally).map_err(|complaint| format!("a million letters: {complaint}"))?;
+    blank::run(subject, tally).map_err(|complaint| format!("blank images: {complaint}"))?;
+    let names = subject.map(|subject| subject as &dyn Names);
+    saves::run(names, tally).map_err(|complaint| format!("saves: {complaint}"))
 }
 
 /// A way of opening answers this number, and the subject's does the same.

@@ -4,7 +4,7 @@ use super::properties::rebuilt_extent;
 use crate::rules::calls::blocks_of;
 use crate::rules::opening::Partition;
 
-pub const CALLS: [&str; 17] = [
+pub const CALLS: [&str; 20] = [
     "open",
     "read committed",
     "read staged",
@@ -22,6 +22,9 @@ pub const CALLS: [&str; 17] = [
     "digest start",
     "digest feed",
     "digest finish",
+    "make blank",
+    "list names",
+    "find file",
 ];
 
 /// One more than the highest number of a refusal.
