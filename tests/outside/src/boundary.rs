@@ -63,6 +63,14 @@ extern "C" {
         key: *const u8,
         signer: *const u64,
     ) -> u64;
+    fn teplovist_revert(image: *mut u8, image_len: usize, session: *mut u8) -> u64;
+    fn teplovist_revert_signed(
+        image: *mut u8,
+        image_len: usize,
+        session: *mut u8,
+        key: *const u8,
+        signer: *const u64,
+    ) -> u64;
     fn teplovist_faults(image: *const u8, image_len: usize, row: *mut FaultRecord, row_len: usize) -> u64;
     fn teplovist_signing_block(image: *const u8, image_len: usize, signer: *const u64, block: *mut u8) -> u64;
     fn teplovist_signing_digest(image: *const u8, image_len: usize, signer: *const u64, digest: *mut u8) -> u64;
@@ -147,6 +155,22 @@ impl Subject for Library {
     fn commit_signed(&self, image: &mut [u8], session: &mut SessionBytes, key: &Key, signer: &SignerNumbers) -> u64 {
         unsafe {
             teplovist_commit_signed(
+                image.as_mut_ptr(),
+                image.len(),
+                session.as_mut_ptr(),
+                key.as_ptr(),
+                signer.as_ptr(),
+            )
+        }
+    }
+
+    fn revert(&self, image: &mut [u8], session: &mut SessionBytes) -> u64 {
+        unsafe { teplovist_revert(image.as_mut_ptr(), image.len(), session.as_mut_ptr()) }
+    }
+
+    fn revert_signed(&self, image: &mut [u8], session: &mut SessionBytes, key: &Key, signer: &SignerNumbers) -> u64 {
+        unsafe {
+            teplovist_revert_signed(
                 image.as_mut_ptr(),
                 image.len(),
                 session.as_mut_ptr(),

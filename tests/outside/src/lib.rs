@@ -5,6 +5,7 @@
 pub mod boundary;
 pub mod description;
 pub mod generate;
+pub mod history;
 pub mod model;
 pub mod program;
 pub mod rules;

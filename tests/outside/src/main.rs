@@ -15,11 +15,13 @@ use outside::stores::prepare::{from_bytes, prepare, to_bytes, Prepared};
 use outside::subject::Subject;
 use outside::trial::blank::run_every_number;
 use outside::trial::tally::Tally;
+use outside::trial::term::run_term;
 use outside::trial::{run_case, run_fixed_cases};
 
 const USAGE: &str = "usage:
   outside generate N [--seed S] [--folder F]   write N valid images into F (default target/images)
-  outside check [--cases N] [--seed S]         run N random cases (default 3000) from seed S on (default 1)
+  outside check [--cases N] [--terms N] [--seed S]   run N random cases (default 3000) and N runs of many sessions
+                                               (default 2000) from seed S on (default 1)
           [--every-blank yes]                  and make the blank image of every number of blocks
   outside samples [FOLDER]                     write the sample images (default samples at the repository's root)
   outside describe < IMAGE                     print what the describing program must print
@@ -28,6 +30,7 @@ const USAGE: &str = "usage:
   outside stores judge FILE < TRACE            judge every store that a trace of the replay has";
 
 const DEFAULT_CASES: u64 = 3000;
+const DEFAULT_TERMS: u64 = 2000;
 const DEFAULT_TRACED_CALLS: u64 = 250;
 
 fn main() -> ExitCode {
@@ -107,6 +110,7 @@ fn subject() -> Option<&'static dyn Subject> {
 
 fn check(arguments: &[String]) -> Result<(), String> {
     let cases = number_flag(arguments, "--cases", DEFAULT_CASES)?;
+    let terms = number_flag(arguments, "--terms", DEFAULT_TERMS)?;
     let seed = number_flag(arguments, "--seed", 1)?;
     let start = Instant::now();
     let mut tally = Tally::default();
@@ -116,12 +120,24 @@ fn check(arguments: &[String]) -> Result<(), String> {
     }
     for number in seed..seed + cases {
         run_case(number, subject(), &mut tally)
-            .map_err(|complaint| format!("FAILED: {complaint}\nagain: outside check --cases 1 --seed {number}"))?;
+            .map_err(|complaint| again(&complaint, "--cases 1 --terms 0", number))?;
+    }
+    for number in seed..seed + terms {
+        run_term(number, subject(), &mut tally)
+            .map_err(|complaint| again(&complaint, "--cases 0 --terms 1", number))?;
     }
     println!("{tally}");
     let against = if subject().is_some() { "library and reference model" } else { "reference model" };
-    println!("{cases} cases from seed {seed} on agree with {against} ({:.1} s)", start.elapsed().as_secs_f64());
+    println!(
+        "{cases} cases and {terms} runs of many sessions from seed {seed} on agree with {against} ({:.1} s)",
+        start.elapsed().as_secs_f64()
+    );
     Ok(())
+}
+
+/// What went wrong, and how to see it again.
+fn again(complaint: &str, which: &str, seed: u64) -> String {
+    format!("FAILED: {complaint}\nagain: outside check {which} --seed {seed}")
 }
 
 /// Prints what the program of the paper prints for the image on standard input.

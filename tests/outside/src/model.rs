@@ -18,6 +18,8 @@ pub struct Model {
     pub committed: Version,
     /// Held from an accepted begin on, until an accepted commit or abandon.
     pub staged: Option<Version>,
+    /// Of an external level 4, the bytes of each block that was verified when they were committed.
+    committed_blocks: Option<Vec<Option<Vec<u8>>>>,
 }
 
 impl Version {
@@ -28,6 +30,24 @@ impl Version {
         } else {
             place / block_size..(place + length - 1) / block_size + 1
         }
+    }
+
+    /// Bytes are laid over, and every block that they touch is verified.
+    pub fn lay_over(&mut self, place: usize, data: &[u8], block_size: usize) {
+        self.bytes[place..place + data.len()].copy_from_slice(data);
+        for block in Version::touched(place, data.len(), block_size) {
+            self.verified[block] = true;
+        }
+    }
+
+    fn block(&self, block: usize, block_size: usize) -> &[u8] {
+        &self.bytes[block * block_size..self.bytes.len().min((block + 1) * block_size)]
+    }
+
+    /// The bytes of each block that is verified.
+    fn verified_blocks(&self, block_size: usize) -> Vec<Option<Vec<u8>>> {
+        let bytes = |(block, verified): (usize, &bool)| verified.then(|| self.block(block, block_size).to_vec());
+        self.verified.iter().enumerate().map(bytes).collect()
     }
 
     /// What a read of this version gives: its bytes, or 10 with the lowest touched block that is not verified, or 9.
@@ -42,7 +62,7 @@ impl Version {
         }
     }
 
-    /// What a write over this version answers after 12: 9, or 10 with the lowest block to which it applies. Of 17 the
+    /// What a write over this version answers after 8: 9, or 10 with the lowest block to which it applies. Of 17 the
     /// model knows nothing beforehand.
     pub fn write(&self, place: u64, length: usize, block_size: usize) -> Result<(), Refusal> {
         if u128::from(place) + length as u128 > self.bytes.len() as u128 {
@@ -71,29 +91,47 @@ impl Version {
 }
 
 impl Model {
-    pub fn new(block_size: usize, committed: Version) -> Model {
-        Model { block_size, committed, staged: None }
+    pub fn new(block_size: usize, external: bool, committed: Version) -> Model {
+        let committed_blocks = external.then(|| committed.verified_blocks(block_size));
+        Model { block_size, committed, staged: None, committed_blocks }
     }
 
     pub fn begin_accepted(&mut self) {
         self.staged = Some(self.committed.clone());
     }
 
-    /// A write to this partition. Without a staged version there is nothing to lay the bytes over.
-    pub fn write_accepted(&mut self, place: usize, data: &[u8]) {
+    /// A write to this partition. Without a staged version there is nothing to lay the bytes over, but for an external
+    /// level 4.
+    pub fn write_accepted(&mut self, place: usize, data: &[u8], matches: impl Fn(usize) -> bool) {
+        self.laid_in_place(place, data, matches);
         if let Some(staged) = &mut self.staged {
-            staged.bytes[place..place + data.len()].copy_from_slice(data);
-            for block in Version::touched(place, data.len(), self.block_size) {
-                staged.verified[block] = true;
-            }
+            staged.lay_over(place, data, self.block_size);
         }
+    }
+
+    /// In an external level 4 bytes are laid over the committed version at once. A touched block is verified there if it
+    /// is as it was when it was committed. If it was not verified then, it may be now: `matches` says so of a block.
+    pub fn laid_in_place(&mut self, place: usize, data: &[u8], matches: impl Fn(usize) -> bool) {
+        let Some(committed_blocks) = &self.committed_blocks else { return };
+        self.committed.bytes[place..place + data.len()].copy_from_slice(data);
+        for block in Version::touched(place, data.len(), self.block_size) {
+            self.committed.verified[block] = match &committed_blocks[block] {
+                Some(bytes) => self.committed.block(block, self.block_size) == bytes,
+                None => matches(block),
+            };
+        }
+    }
+
+    /// What is committed now is known to be this.
+    pub fn committed_anew(&mut self, version: Version) {
+        *self = Model::new(self.block_size, self.committed_blocks.is_some(), version);
     }
 
     /// Answers whether the model knows what is committed now: it does not if it held no staged version.
     pub fn commit_accepted(&mut self) -> bool {
         match self.staged.take() {
             Some(staged) => {
-                self.committed = staged;
+                self.committed_anew(staged);
                 true
             }
             None => false,

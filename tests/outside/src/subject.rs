@@ -1,5 +1,5 @@
 //! Whatever claims to follow the rules, in the form of the library's boundary: an answer is one number (the refusal's
-//! number in the low eight bits, the value above), a session is 257 bytes, a key 16, a running digest 104.
+//! number in the low eight bits, the value above), a session is 513 bytes, a key 16, a running digest 104.
 
 // With their paths, since bench/ takes this file in by its path and would look for them beside it.
 #[path = "subject/blank.rs"]
@@ -34,6 +34,8 @@ pub trait Subject: Blanks + Names {
     fn abandon(&self, session: &mut SessionBytes) -> u64;
     fn open_signed(&self, image: &[u8], key: &Key, signer: &SignerNumbers, description: &mut Description) -> u64;
     fn commit_signed(&self, image: &mut [u8], session: &mut SessionBytes, key: &Key, signer: &SignerNumbers) -> u64;
+    fn revert(&self, image: &mut [u8], session: &mut SessionBytes) -> u64;
+    fn revert_signed(&self, image: &mut [u8], session: &mut SessionBytes, key: &Key, signer: &SignerNumbers) -> u64;
     fn faults(&self, image: &[u8], row: &mut [FaultRecord]) -> u64;
     fn signing_block(&self, image: &[u8], signer: &SignerNumbers, block: &mut BlockBytes) -> u64;
     fn signing_digest(&self, image: &[u8], signer: &SignerNumbers, digest: &mut Digest) -> u64;
@@ -117,6 +119,22 @@ impl Subject for Rules {
     fn commit_signed(&self, image: &mut [u8], session: &mut SessionBytes, key: &Key, signer: &SignerNumbers) -> u64 {
         let mut value = Session::from_bytes(session);
         answer_code(calls::commit_signed(image, &mut value, key, Signer::from_numbers(*signer)).map(|()| {
+            *session = value.to_bytes();
+            0
+        }))
+    }
+
+    fn revert(&self, image: &mut [u8], session: &mut SessionBytes) -> u64 {
+        let mut value = Session::from_bytes(session);
+        answer_code(calls::revert(image, &mut value).map(|()| {
+            *session = value.to_bytes();
+            0
+        }))
+    }
+
+    fn revert_signed(&self, image: &mut [u8], session: &mut SessionBytes, key: &Key, signer: &SignerNumbers) -> u64 {
+        let mut value = Session::from_bytes(session);
+        answer_code(calls::revert_signed(image, &mut value, key, Signer::from_numbers(*signer)).map(|()| {
             *session = value.to_bytes();
             0
         }))

@@ -51,7 +51,7 @@ fn a_session_on_a_blank_image() {
     for kind in [Kind::Disa, Kind::Diff] {
         let mut image = blank(kind, 130);
         assert_eq!(count_verified(&image, 0), Ok(130));
-        let mut session = Session::Idle;
+        let mut session = Session::FRESH;
         begin(&mut image, &mut session).expect("idle");
         let mut expected = vec![0; 130 * 0x1000];
         for (place, length) in [(0, 1), (0xFFF, 2), (127 * 0x1000 + 5, 0x2000), (130 * 0x1000 - 1, 1)] {

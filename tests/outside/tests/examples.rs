@@ -8,7 +8,9 @@ use outside::generate::shape::Wanted;
 use outside::generate::{valid_image, Sample};
 use outside::program::program_output;
 use outside::rules::block_hash::with_stand_in;
-use outside::rules::calls::{abandon, begin, commit, commit_signed, read_committed, read_staged, verified, write};
+use outside::rules::calls::{
+    abandon, begin, commit, commit_signed, read_committed, read_staged, revert, revert_signed, verified, write,
+};
 use outside::rules::descriptor::{Descriptor, Level, DPFS_SIZE, ENTRY, IVFC_SIZE, MASTER_SIZE};
 use outside::rules::dpfs::View;
 use outside::rules::extent::Extent;
@@ -118,7 +120,7 @@ fn p8_to_p10_the_end_of_level_4() {
     assert_eq!(read(u64::MAX, 1), 9);
 
     let mut image = sample.image.clone();
-    let mut session = Session::Idle;
+    let mut session = Session::FRESH;
     begin(&mut image, &mut session).expect("idle");
     let mut written = |place: u64, length: usize| number(write(&mut image, &mut session, 0, place, &vec![1; length]));
     assert_eq!(written(0x1000, 0), 0);
@@ -245,7 +247,7 @@ fn the_samples_are_up_to_date() {
 fn a_session() {
     let Sample { mut image, versions, .. } = diff_with_data(300, 6, 5);
     let old = &versions[0].bytes;
-    let mut session = Session::Idle;
+    let mut session = Session::FRESH;
     let mut buffer = [0; 20];
     assert_eq!(abandon(&mut session), Err(Refusal::WrongSession));
     begin(&mut image, &mut session).expect("idle");
@@ -261,7 +263,7 @@ fn a_session() {
     assert_eq!(buffer, old[58..78]);
     let mut stale = session.clone();
     commit(&mut image, &mut session).expect("begun");
-    assert_eq!(session, Session::Idle);
+    assert!(!session.is_begun());
     read_committed(&image, 0, 58, &mut buffer).expect("verified");
     assert_eq!(buffer[..], expected);
     assert_eq!(write(&mut image, &mut stale, 0, 0, &[]), Err(Refusal::Outdated));
@@ -276,7 +278,7 @@ fn a_first_write() {
     let level2 = partition.descriptor.hash_level(2).extent.offset;
     let entry = View::committed(&image, &opened, partition).level3_position(level2);
     image[entry as usize] ^= 1;
-    let mut session = Session::Idle;
+    let mut session = Session::FRESH;
     begin(&mut image, &mut session).expect("idle");
     let before = image.clone();
     assert_eq!(write(&mut image, &mut session, 0, 33, &[0xAA; 70]), Err(Refusal::NotVerified(1)));
@@ -295,11 +297,55 @@ fn a_first_write() {
     assert_eq!(read_committed(&image, 0, 32, &mut [0; 65]), Err(Refusal::NotVerified(3)));
 }
 
+/// An external level 4 is written in place: the committed view has the new bytes at once, and they are handed out there
+/// only if the committed entry is theirs. The staged view has both, and abandoning brings nothing back.
+#[test]
+fn a_write_in_place() {
+    let wanted = Wanted {
+        kind: Some(Kind::Diff),
+        external: Some(true),
+        data: Some((200, 6)),
+        all_verified: true,
+        ..Wanted::default()
+    };
+    let Sample { mut image, versions, opened, .. } = valid_image(&mut Random::new(3), &wanted);
+    let old = &versions[0].bytes;
+    let mut session = Session::FRESH;
+    begin(&mut image, &mut session).expect("idle");
+    let before = image.clone();
+    write(&mut image, &mut session, 0, 60, &[0xAA; 10]).expect("verified");
+    let changed: Vec<usize> = (0..image.len()).filter(|place| image[*place] != before[*place]).collect();
+    let free = free_bytes(&before, &opened);
+    let external =
+        (opened.partitions[0].place.area.offset as u64 + opened.partitions[0].descriptor.external.unwrap()) as usize;
+    assert!(changed.iter().all(|place| free[*place] || (external + 60..external + 70).contains(place)));
+    let mut buffer = [0; 200];
+    assert_eq!(read_committed(&image, 0, 0, &mut buffer), Err(Refusal::NotVerified(0)));
+    assert_eq!(read_committed(&image, 0, 64, &mut buffer), Err(Refusal::PastTheEnd));
+    read_committed(&image, 0, 128, &mut buffer[128..]).expect("not touched");
+    read_staged(&image, &session, 0, 0, &mut buffer).expect("verified");
+    assert_eq!(buffer[60..70], [0xAA; 10]);
+
+    write(&mut image, &mut session, 0, 60, &old[60..70]).expect("verified in the staged view");
+    read_committed(&image, 0, 0, &mut buffer).expect("the bytes are the committed ones again");
+    assert_eq!(buffer[..], old[..]);
+
+    write(&mut image, &mut session, 0, 130, &[0xBB; 1]).expect("verified");
+    abandon(&mut session).expect("begun");
+    assert_eq!(verified(&image, 0, 2), Ok(false));
+    begin(&mut image, &mut session).expect("idle");
+    assert_eq!(write(&mut image, &mut session, 0, 131, &[0xCC; 1]), Err(Refusal::NotVerified(2)));
+    write(&mut image, &mut session, 0, 128, &[0xDD; 64]).expect("a whole block");
+    commit(&mut image, &mut session).expect("begun");
+    read_committed(&image, 0, 0, &mut buffer).expect("verified");
+    assert_eq!((buffer[127], buffer[128]), (old[127], 0xDD));
+}
+
 /// Under a hash that gives zeros for every message each write ends in 17, and the session with it.
 #[test]
 fn a_digest_of_zeros() {
     let Sample { mut image, opened, .. } = diff_with_data(300, 6, 5);
-    let mut session = Session::Idle;
+    let mut session = Session::FRESH;
     begin(&mut image, &mut session).expect("idle");
     let before = image.clone();
     with_stand_in(255, || {
@@ -309,7 +355,7 @@ fn a_digest_of_zeros() {
         assert_eq!(image, before);
         assert_eq!(write(&mut image, &mut session, 0, 0, &[1; 64]), Err(Refusal::ZeroDigest));
     });
-    assert_eq!(session, Session::Idle);
+    assert_eq!(session, Session::FRESH);
     let free = free_bytes(&before, &opened);
     assert!((0..image.len()).all(|place| free[place] || image[place] == before[place]));
 }
@@ -342,13 +388,54 @@ fn the_order_of_signed_opening() {
     assert_eq!(number(open_signed(&image[..0x1FF], &key, Signer::Gamecard)), 1);
 }
 
+/// One step back, and no further; a begin bars the way, whoever made it.
+#[test]
+fn a_step_back() {
+    let Sample { mut image, .. } = diff_with_data(300, 6, 5);
+    let mut session = Session::FRESH;
+    assert_eq!(revert(&mut image, &mut session), Err(Refusal::NoWayBack));
+    begin(&mut image, &mut session).expect("idle");
+    assert_eq!(revert(&mut image, &mut session), Err(Refusal::WrongSession));
+    write(&mut image, &mut session, 0, 0, &[0xAA; 300]).expect("verified");
+    let before = image.clone();
+    commit(&mut image, &mut session).expect("begun");
+    let remembered = session.clone();
+    revert(&mut image, &mut session).expect("the last commit");
+    assert_eq!(image, before);
+    assert_eq!(session, Session::FRESH);
+    assert_eq!(revert(&mut image, &mut session), Err(Refusal::NoWayBack));
+    assert_eq!(revert(&mut image, &mut remembered.clone()), Err(Refusal::NoWayBack));
+
+    // The staged view is still there, and a session that remembers this header may commit it again.
+    let mut again = Session::begun(&image);
+    commit(&mut image, &mut again).expect("as it was left");
+    assert_eq!(again, remembered);
+    let committed = image.clone();
+    begin(&mut image, &mut Session::FRESH.clone()).expect("idle");
+    assert_eq!(revert(&mut image, &mut again), Err(Refusal::NoWayBack));
+    image.copy_from_slice(&committed);
+    begin(&mut image, &mut again).expect("idle");
+    abandon(&mut again).expect("begun");
+    assert_eq!(revert(&mut image, &mut again), Err(Refusal::NoWayBack));
+
+    image.copy_from_slice(&committed);
+    let mut other = remembered.clone();
+    let key = [3; 16];
+    assert_eq!(revert_signed(&mut image, &mut other, &key, Signer::Gamecard), Err(Refusal::WrongSigner));
+    assert_eq!((&image, &other), (&committed, &remembered));
+    let signer = Signer::Quota { extdata: 9 };
+    revert_signed(&mut image, &mut other, &key, signer).expect("the last commit");
+    assert_eq!(image[16..], before[16..]);
+    assert_eq!(number(open_signed(&image, &key, signer)), 0);
+}
+
 /// The signature lands with the header, in one unit: with only one of the two the image is no longer signed.
 #[test]
 fn a_signed_session() {
     let Sample { mut image, versions, .. } = diff_with_data(300, 6, 5);
     let key = [0xA5; 16];
     let signer = Signer::Database { database: 3 };
-    let mut session = Session::Idle;
+    let mut session = Session::FRESH;
     assert_eq!(commit_signed(&mut image, &mut session, &key, Signer::Gamecard), Err(Refusal::WrongSession));
     begin(&mut image, &mut session).expect("idle");
     write(&mut image, &mut session, 0, 0, &[0xAA; 10]).expect("verified");
@@ -356,7 +443,7 @@ fn a_signed_session() {
     assert_eq!(commit_signed(&mut image, &mut session, &key, Signer::Gamecard), Err(Refusal::WrongSigner));
     assert_eq!(image, before);
     commit_signed(&mut image, &mut session, &key, signer).expect("begun");
-    assert_eq!(session, Session::Idle);
+    assert!(!session.is_begun());
     assert_eq!(number(open_signed(&image, &key, signer)), 0);
     assert_eq!(image[0x10..0x100], before[0x10..0x100]);
     assert_eq!(image[0x200..], before[0x200..]);

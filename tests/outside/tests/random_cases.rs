@@ -1,9 +1,12 @@
 //! Random cases against the reference model, and proof that the comparison notices what it should: subjects that break
 //! a rule are found out.
 
+use std::ops::Range;
+
 use outside::description::{Description, DESCRIPTION_LENGTH};
 use outside::rules::aes::Key;
 use outside::rules::block_hash::block_hash;
+use outside::rules::calls::touched_blocks;
 use outside::rules::cmac::cmac;
 use outside::rules::compression::{compress, Digest};
 use outside::rules::descriptor::{ENTRY, IVFC_LEVELS, SELECTOR};
@@ -14,12 +17,13 @@ use outside::rules::header::{B_FIELDS, HEADER, HEADER_LENGTH, LONGEST_IMAGE};
 use outside::rules::names::Name;
 use outside::rules::opening::open;
 use outside::rules::running::{Running, RunningBytes, LONGEST_MESSAGE, TOTAL, WAITING};
-use outside::rules::session::{SessionBytes, SESSION_LENGTH};
+use outside::rules::session::{header_bytes, Session, SessionBytes, SESSION_LENGTH};
 use outside::rules::sha256::sha256;
 use outside::rules::signing::{signature, signing_block, BlockBytes, Signer, SignerNumbers, LONGEST_BLOCK};
 use outside::subject::blank::Blanks;
 use outside::subject::names::Names;
 use outside::subject::{Rules, Subject};
+use outside::trial::call::Call;
 use outside::trial::properties::{finish_write, rebuilt_extent, touched_on_each_level, Finished};
 use outside::trial::tally::{Tally, NUMBERS};
 use outside::trial::{run_case, run_fixed_cases};
@@ -39,11 +43,13 @@ fn the_model_agrees_and_every_answer_occurs() {
         ("verified", vec![8, 9]),
         ("count verified", vec![8]),
         ("begin", vec![13]),
-        ("write", vec![8, 9, 10, 12, 13, 14, 17]),
+        ("write", vec![8, 9, 10, 13, 14, 17]),
         ("commit", vec![13, 14]),
         ("open signed", vec![15, 16]),
         ("commit signed", vec![13, 14, 15]),
         ("faults", vec![]),
+        ("revert", vec![13, 21]),
+        ("revert signed", vec![13, 15, 21]),
         ("list names", vec![10, 18, 19]),
         ("find file", vec![10, 18, 19]),
     ];
@@ -62,12 +68,13 @@ fn the_model_agrees_and_every_answer_occurs() {
         }
     }
     assert!(tally.count("abandon", 0) > 0 && tally.count("abandon", 13) > 0);
-    assert!(tally.power_failures > 0 && tally.writes_upon_writes > 0);
+    assert!(tally.power_failures > 0 && tally.writes_upon_writes > 0 && tally.reverted > 0);
     assert!(tally.later_entries > 0, "no write reached a later entry of a master hash");
     assert!(tally.rows > 0, "no call met eight blocks in a row");
-    assert_eq!(tally.count("write", 11), 0);
+    assert_eq!((tally.count("write", 11), tally.count("write", 12)), (0, 0));
     assert!(tally.rebuilt.iter().all(|count| *count > 0), "rebuilt hash blocks: {:?}", tally.rebuilt);
     assert!(tally.rebuilt_across > 0 && tally.rebuilt_short > 0);
+    assert!(tally.in_place.iter().all(|count| *count > 0), "blocks written in place: {:?}", tally.in_place);
     assert!(tally.zero_digests.iter().all(|count| *count > 0), "digests of zeros: {:?}", tally.zero_digests);
 }
 
@@ -158,6 +165,22 @@ faults! {
     ZeroDigestBeforeParts,
     ZeroDigestChangesCommitted,
     ZeroDigestCarriesBlock,
+    RefusesExternal,
+    WritesPastRange,
+    KeepsExternalData,
+    TrustsStagedEntry,
+    JudgesPartsByCommitted,
+    BeginRemembers,
+    CommitForgets,
+    CommitSignedForgets,
+    RevertKeepsMemory,
+    RevertComparesFlag,
+    RevertStoresToTry,
+    RevertOpensNot,
+    RevertJudgesMemoryFirst,
+    RevertSignsPresent,
+    RevertForgetsSignature,
+    RevertJudgesSignerFirst,
 }
 
 /// The model with one fault.
@@ -224,6 +247,12 @@ impl Subject for Faulty {
             Fault::ReadsZeros if answer == 0 => buffer.fill(0),
             Fault::FillsBufferOnRefusal if answer & 0xFF == 10 => buffer.fill(0),
             Fault::CarriesNoBlock => return answer & 0xFF,
+            Fault::TrustsStagedEntry if answer & 0xFF == 10 && is_external(image, partition) => {
+                let session = Session::begun(image).to_bytes();
+                if Rules.read_staged(image, &session, partition, place, buffer) == 0 {
+                    return 0;
+                }
+            }
             _ => {}
         }
         answer
@@ -249,7 +278,11 @@ impl Subject for Faulty {
     }
 
     fn begin(&self, image: &mut [u8], session: &mut SessionBytes) -> u64 {
+        let session_before = *session;
         let answer = Rules.begin(image, session);
+        if self.0 == Fault::BeginRemembers && answer == 0 {
+            session[1 + HEADER_LENGTH..].copy_from_slice(&session_before[1 + HEADER_LENGTH..]);
+        }
         if self.0 == Fault::BeginWritesMore && answer == 0 {
             copy_live_over_other(image);
         }
@@ -282,6 +315,24 @@ impl Subject for Faulty {
                 return 17;
             }
             (Fault::ZeroDigestCarriesBlock, 17) => return 1 << 8 | 17,
+            (Fault::RefusesExternal, 0) if is_external(&before, partition) => {
+                image.copy_from_slice(&before);
+                return 12;
+            }
+            (Fault::WritesPastRange, 0) => {
+                let written = in_place(image, partition, place, data);
+                if !written.is_empty() && written.end < image.len() {
+                    image[written.end] ^= 1;
+                }
+            }
+            (Fault::KeepsExternalData, 0) => {
+                let written = in_place(image, partition, place, data);
+                image[written.clone()].copy_from_slice(&before[written]);
+            }
+            (Fault::JudgesPartsByCommitted, 0) if !parts_committed(&before, partition, place, data) => {
+                image.copy_from_slice(&before);
+                return 10;
+            }
             _ => {}
         }
         if answer != 0 || self.0 == Fault::WriteDoesNothing {
@@ -307,6 +358,7 @@ impl Subject for Faulty {
         match self.0 {
             Fault::CommitKeepsHeader => image.copy_from_slice(&before),
             Fault::CommitKeepsSession => *session = session_before,
+            Fault::CommitForgets if answer == 0 => *session = [0; SESSION_LENGTH],
             _ => {}
         }
         answer
@@ -380,6 +432,29 @@ impl Subject for Faulty {
             Fault::CommitForgetsSignature => image[..16].copy_from_slice(&before[..16]),
             Fault::CommitClearsFront => image[0x10..0x100].fill(0),
             Fault::CommitSignedKeepsSession => *session = session_before,
+            Fault::CommitSignedForgets => *session = [0; SESSION_LENGTH],
+            _ => {}
+        }
+        answer
+    }
+
+    fn revert(&self, image: &mut [u8], session: &mut SessionBytes) -> u64 {
+        self.faulty_revert(image, session, |image, session| Rules.revert(image, session))
+    }
+
+    fn revert_signed(&self, image: &mut [u8], session: &mut SessionBytes, key: &Key, signer: &SignerNumbers) -> u64 {
+        let before = image.to_vec();
+        let right = |image: &mut [u8], session: &mut SessionBytes| Rules.revert_signed(image, session, key, signer);
+        let answer = self.faulty_revert(image, session, right);
+        match (self.0, answer) {
+            (Fault::RevertSignsPresent, 0) => {
+                let present = signature(&before, key, Signer::from_numbers(*signer)).expect("a signer that fits");
+                image[..16].copy_from_slice(&present);
+            }
+            (Fault::RevertForgetsSignature, 0) => image[..16].copy_from_slice(&before[..16]),
+            (Fault::RevertJudgesSignerFirst, 21) if signature(&before, key, Signer::from_numbers(*signer)).is_err() => {
+                return 15;
+            }
             _ => {}
         }
         answer
@@ -399,7 +474,7 @@ impl Subject for Faulty {
             Fault::BlocksFromTheLast => list.sort_by_key(|fault| (fault.partition, fault.level, !fault.block)),
             Fault::ListsStagedView => list = staged_faults(image, list),
             Fault::ListsSpareBlocksNot => list.retain(|fault| !is_spare(image, fault)),
-            Fault::ListsExternalNot => list.retain(|fault| fault.level < 4 || !is_external(image, fault)),
+            Fault::ListsExternalNot => list.retain(|fault| fault.level < 4 || !is_external(image, fault.partition)),
             Fault::ListsRootsOnly => list = roots_of(image, list),
             _ => {}
         }
@@ -508,6 +583,49 @@ impl Subject for Faulty {
     }
 }
 
+impl Faulty {
+    /// What both ways back may do wrong; `right` is the right one.
+    fn faulty_revert(
+        &self,
+        image: &mut [u8],
+        session: &mut SessionBytes,
+        right: impl Fn(&mut [u8], &mut SessionBytes) -> u64,
+    ) -> u64 {
+        let session_before = *session;
+        let answer = right(image, session);
+        let (former, latter) = match Session::from_bytes(&session_before) {
+            Session::Idle { former, latter } => (former, latter),
+            Session::Begun(_) if self.0 == Fault::RevertJudgesMemoryFirst && answer == 13 => return 21,
+            Session::Begun(_) => return answer,
+        };
+        match (self.0, answer) {
+            (Fault::RevertKeepsMemory, 0) => *session = session_before,
+            (Fault::RevertComparesFlag, 21) => {
+                let present = header_bytes(image);
+                let flag = open(image).expect("it has opened").header.kind.flag_place().0;
+                if latter[..8] == present[..8] && latter[flag] == present[flag] {
+                    *session = Session::Idle { former, latter: present }.to_bytes();
+                    let answer = right(image, session);
+                    if answer != 0 {
+                        *session = session_before;
+                    }
+                    return answer;
+                }
+            }
+            (Fault::RevertStoresToTry, 21) if latter == header_bytes(image) => {
+                image[HEADER..HEADER + HEADER_LENGTH].copy_from_slice(&former);
+            }
+            (Fault::RevertOpensNot, 21) if latter == header_bytes(image) => {
+                image[HEADER..HEADER + HEADER_LENGTH].copy_from_slice(&former);
+                *session = [0; SESSION_LENGTH];
+                return 0;
+            }
+            _ => {}
+        }
+        answer
+    }
+}
+
 /// A digest whose padding leaves what stands behind the waiting bytes, where zeros belong.
 fn padded_with_leftovers(value: &Running, state: &RunningBytes) -> Digest {
     let mut last = state[WAITING..TOTAL].to_vec();
@@ -564,8 +682,29 @@ fn is_spare(image: &[u8], fault: &FaultRecord) -> bool {
             <= u128::from(fault.block) * descriptor.hash_level(level).block_size()
 }
 
-fn is_external(image: &[u8], fault: &FaultRecord) -> bool {
-    open(image).expect("it has opened").partitions[fault.partition as usize].descriptor.external.is_some()
+fn is_external(image: &[u8], partition: u64) -> bool {
+    open(image).expect("it has opened").partitions[partition as usize].descriptor.external.is_some()
+}
+
+/// The positions that a write changes in place.
+fn in_place(image: &[u8], partition: u64, place: u64, data: &[u8]) -> Range<usize> {
+    let opened = open(image).expect("it has opened");
+    Call::Write { partition, place, data: data.to_vec() }.written_in_place(&opened)
+}
+
+/// Are the first and the last touched block verified in the committed view?
+fn parts_committed(image: &[u8], partition: u64, place: u64, data: &[u8]) -> bool {
+    let opened = open(image).expect("it has opened");
+    let partition = &opened.partitions[partition as usize];
+    let view = View::committed(image, &opened, partition);
+    let touched = touched_blocks(partition, Extent::new(place, data.len() as u64));
+    let size = partition.descriptor.hash_level(4).block_size() as u64;
+    let last = touched.end.max(1) - 1;
+    let end = place + data.len() as u64;
+    let first_in_part = !place.is_multiple_of(size);
+    let last_in_part = !end.is_multiple_of(size) && u128::from(end) < view.data_size();
+    data.is_empty()
+        || ((!first_in_part || view.verified(4, touched.start)) && (!last_in_part || view.verified(4, last)))
 }
 
 /// The faults that are below no other.

@@ -134,7 +134,7 @@ struct Draft {
 }
 
 fn draft_partition(random: &mut Random, gaps: &mut Gaps, wanted: &Wanted) -> Draft {
-    let external = wanted.external.unwrap_or_else(|| random.chance(20));
+    let external = wanted.external.unwrap_or_else(|| random.chance(30));
     let master_entries = match wanted.master_entries {
         Some(entries) => entries.into(),
         None if wanted.tight => 1,

@@ -6,7 +6,7 @@ use std::ops::Range;
 use super::aes::Key;
 use super::dpfs::View;
 use super::extent::Extent;
-use super::header::{FRONT, HEADER};
+use super::header::{FRONT, HEADER, HEADER_LENGTH};
 use super::opening::{open, Opened, Partition};
 use super::refusal::Refusal;
 use super::session::{header_bytes, Session};
@@ -58,7 +58,7 @@ pub fn count_verified(image: &[u8], partition: u64) -> Result<u64, Refusal> {
 /// half of level 1 a copy of the live one.
 pub fn begin(image: &mut [u8], session: &mut Session) -> Result<(), Refusal> {
     let opened = open(image)?;
-    if *session != Session::Idle {
+    if session.is_begun() {
         return Err(Refusal::WrongSession);
     }
     staging::prepare(image, &opened);
@@ -66,14 +66,11 @@ pub fn begin(image: &mut [u8], session: &mut Session) -> Result<(), Refusal> {
     Ok(())
 }
 
-/// Writes into the staged view's level 4. Only 17 changes the session.
+/// Writes into the staged view's level 4, or into an external one in place. Only 17 changes the session.
 pub fn write(image: &mut [u8], session: &mut Session, partition: u64, place: u64, data: &[u8]) -> Result<(), Refusal> {
     let opened = open(image)?;
     check_begun(image, &opened, session)?;
     let partition = opened.partition(partition)?;
-    if partition.descriptor.external.is_some() {
-        return Err(Refusal::ExternalWrite);
-    }
     let view = View::staged(image, &opened, partition);
     let range = range_in_data(&view, place, data.len())?;
     for block in touched_blocks(partition, range) {
@@ -81,7 +78,7 @@ pub fn write(image: &mut [u8], session: &mut Session, partition: u64, place: u64
             return Err(Refusal::NotVerified(block as u64));
         }
     }
-    staging::write(image, &opened, partition, range, data).inspect_err(|_| *session = Session::Idle)
+    staging::write(image, &opened, partition, range, data).inspect_err(|_| *session = Session::FRESH)
 }
 
 /// Makes the staged table the active one.
@@ -89,8 +86,8 @@ pub fn commit(image: &mut [u8], session: &mut Session) -> Result<(), Refusal> {
     let opened = open(image)?;
     check_begun(image, &opened, session)?;
     let front = committed_front(image, &opened);
-    image[HEADER..front.len()].copy_from_slice(&front[HEADER..]);
-    *session = Session::Idle;
+    *session = Session::Idle { former: header_bytes(image), latter: header_bytes(&front) };
+    put_header(image, &front);
     Ok(())
 }
 
@@ -100,10 +97,49 @@ pub fn commit_signed(image: &mut [u8], session: &mut Session, key: &Key, signer:
     check_begun(image, &opened, session)?;
     let front = committed_front(image, &opened);
     let signature = signature(&front, key, signer)?;
+    *session = Session::Idle { former: header_bytes(image), latter: header_bytes(&front) };
     image[..signature.len()].copy_from_slice(&signature);
-    image[HEADER..front.len()].copy_from_slice(&front[HEADER..]);
-    *session = Session::Idle;
+    put_header(image, &front);
     Ok(())
+}
+
+/// Takes the last commit of a session back: stores the header that was there before it.
+pub fn revert(image: &mut [u8], session: &mut Session) -> Result<(), Refusal> {
+    let front = former_front(image, session)?;
+    put_header(image, &front);
+    *session = Session::FRESH;
+    Ok(())
+}
+
+/// The same, with the signature of that header.
+pub fn revert_signed(image: &mut [u8], session: &mut Session, key: &Key, signer: Signer) -> Result<(), Refusal> {
+    let front = former_front(image, session)?;
+    let signature = signature(&front, key, signer)?;
+    image[..signature.len()].copy_from_slice(&signature);
+    put_header(image, &front);
+    *session = Session::FRESH;
+    Ok(())
+}
+
+/// The first 0x200 bytes with the header before the last commit: opening's refusals, 13, and 21 unless the header is as
+/// that commit left it and the image opens under the former one.
+fn former_front(image: &[u8], session: &Session) -> Result<Vec<u8>, Refusal> {
+    open(image)?;
+    let Session::Idle { former, latter } = session else {
+        return Err(Refusal::WrongSession);
+    };
+    let mut reverted = image.to_vec();
+    reverted[HEADER..HEADER + HEADER_LENGTH].copy_from_slice(former);
+    if header_bytes(image) != *latter || open(&reverted).is_err() {
+        return Err(Refusal::NoWayBack);
+    }
+    reverted.truncate(FRONT as usize);
+    Ok(reverted)
+}
+
+/// Stores the header of these first 0x200 bytes.
+fn put_header(image: &mut [u8], front: &[u8]) {
+    image[HEADER..front.len()].copy_from_slice(&front[HEADER..]);
 }
 
 /// The first 0x200 bytes with a commit's header: only the flag and the table's hash change.
@@ -118,10 +154,10 @@ fn committed_front(image: &[u8], opened: &Opened) -> Vec<u8> {
 
 /// Ends the session; does not look at the image.
 pub fn abandon(session: &mut Session) -> Result<(), Refusal> {
-    if *session == Session::Idle {
+    if !session.is_begun() {
         return Err(Refusal::WrongSession);
     }
-    *session = Session::Idle;
+    *session = Session::FRESH;
     Ok(())
 }
 

@@ -14,6 +14,14 @@ pub struct Partition {
     pub descriptor: Descriptor,
 }
 
+impl Partition {
+    /// Where a range of an external level 4 lies in the image: what a write changes at once. None if level 4 is internal.
+    pub fn written_in_place(&self, range: Extent) -> Option<Extent> {
+        let start = self.place.area.offset + u128::from(self.descriptor.external?);
+        Some(Extent { offset: start + range.offset, size: range.size })
+    }
+}
+
 /// Every field that is read from an accepted image.
 #[derive(Clone, Debug, PartialEq, Eq)]
 pub struct Opened {

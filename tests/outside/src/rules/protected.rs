@@ -1,11 +1,12 @@
-//! The bytes that no call but commit may change.
+//! The bytes that no call but commit may change, apart from what a write changes in place.
 
 use super::dpfs::View;
 use super::opening::Opened;
 
 /// For each byte of the image, whether calls other than commit may change it. Free are the inactive table, the other
 /// half of each level 1, and the copies of level 2 and level 3 blocks that are not live; all else is protected: the
-/// first 0x200 bytes, the active table, live halves and copies, external level 4, and space that no field names.
+/// first 0x200 bytes, the active table, live halves and copies, external level 4 (but for the range that a write is
+/// given), and space that no field names.
 pub fn free_bytes(image: &[u8], opened: &Opened) -> Vec<bool> {
     let mut free = vec![false; image.len()];
     let mut mark = |position: u128| free[position as usize] = true;

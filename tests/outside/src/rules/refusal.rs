@@ -22,8 +22,6 @@ pub enum Refusal {
     PastTheEnd,
     /// 10: this block of level 4 is not verified.
     NotVerified(u64),
-    /// 12: a write to a partition whose level 4 is external.
-    ExternalWrite,
     /// 13: idle where begun is needed, or begun where idle is.
     WrongSession,
     /// 14: the header or the inactive table is not as the session left it.
@@ -41,6 +39,8 @@ pub enum Refusal {
     NotASave,
     /// 20: a blank image's number of blocks, or its length.
     BlankSize,
+    /// 21: there is no commit to go back from.
+    NoWayBack,
     /// 22: a running digest's message is or would become too long.
     MessageTooLong,
 }
@@ -58,7 +58,6 @@ impl Refusal {
             Refusal::NoSuchPartition => 8,
             Refusal::PastTheEnd => 9,
             Refusal::NotVerified(_) => 10,
-            Refusal::ExternalWrite => 12,
             Refusal::WrongSession => 13,
             Refusal::Outdated => 14,
             Refusal::WrongSigner => 15,
@@ -67,6 +66,7 @@ impl Refusal {
             Refusal::BrokenTree => 18,
             Refusal::NotASave => 19,
             Refusal::BlankSize => 20,
+            Refusal::NoWayBack => 21,
             Refusal::MessageTooLong => 22,
         }
     }

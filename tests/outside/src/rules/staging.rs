@@ -41,8 +41,8 @@ pub fn inactive_table_is_staged(image: &[u8], opened: &Opened) -> bool {
     expected == inactive
 }
 
-/// Write's stores: hash blocks above touched blocks are emptied if they are not verified; then come the bytes, then the
-/// entries of the touched blocks in levels 3, 2, 1 and the staged master hash. Refusal 17 if one of those is all zero.
+/// Write's stores: hash blocks above touched blocks are emptied if they are not verified; then come the bytes, in place
+/// if level 4 is external, then the entries of the touched blocks in levels 3, 2, 1 and the staged master hash. Refusal 17 if one of those is all zero.
 pub fn write(
     image: &mut [u8],
     opened: &Opened,
@@ -55,8 +55,13 @@ pub fn write(
         let start = partition.descriptor.hash_level(level).extent.offset;
         put(image, opened, partition, start + own.offset, &vec![0; own.size as usize]);
     }
-    let start = partition.descriptor.hash_level(4).extent.offset;
-    put(image, opened, partition, start + range.offset, data);
+    match partition.written_in_place(range) {
+        Some(place) => image[place.offset as usize..place.end() as usize].copy_from_slice(data),
+        None => {
+            let start = partition.descriptor.hash_level(4).extent.offset;
+            put(image, opened, partition, start + range.offset, data);
+        }
+    }
     let mut touched = touched_blocks(partition, range);
     for level in [4, 3, 2, 1] {
         for block in touched.clone() {

@@ -9,7 +9,7 @@ use crate::rules::protected::free_bytes;
 use crate::rules::signing::SIGNATURE_LENGTH;
 use crate::subject::Rules;
 use crate::trial::call::Call;
-use crate::trial::properties::require;
+use crate::trial::properties::{require, writable_bytes};
 use std::collections::BTreeMap;
 use std::io::BufRead;
 
@@ -54,7 +54,7 @@ pub fn judge(calls: &[Prepared], trace: &mut dyn BufRead) -> Result<Tally, Strin
     if number < calls.len() {
         return Err(format!("the trace ends after {number} of {} calls", calls.len()));
     }
-    for kind in ["begin", "write", "commit", "signed commit"] {
+    for kind in ["begin", "write", "commit", "signed commit", "revert", "signed revert"] {
         let seen = tally.get(kind).copied().unwrap_or_default();
         if seen.stored == 0 {
             return Err(format!("no store of a {kind} was seen"));
@@ -99,33 +99,37 @@ fn kind_of(call: &Call) -> &'static str {
         Call::Write { .. } => "write",
         Call::Commit => "commit",
         Call::CommitSigned { .. } => "signed commit",
+        Call::Revert => "revert",
+        Call::RevertSigned { .. } => "signed revert",
         _ => "another call",
     }
 }
 
-/// Does an accepted call of this kind store to this place, just once? A commit does to the header, a signed one to the signature too.
+/// Does an accepted call of this kind store to this place, just once? A commit or a revert does to the header, a signed one to the
+/// signature too.
 fn stores_once(kind: &str, place: usize) -> bool {
     let in_header = (HEADER..HEADER + HEADER_LENGTH).contains(&place);
     match kind {
-        "commit" => in_header,
-        "signed commit" => in_header || place < SIGNATURE_LENGTH,
+        "commit" | "revert" => in_header,
+        "signed commit" | "signed revert" => in_header || place < SIGNATURE_LENGTH,
         _ => false,
     }
 }
 
-/// Begin and write may store to free bytes; an accepted commit stores each byte of the header once, a signed one each of the signature too; no other
+/// Begin and write may store to free bytes, an accepted write to the bytes of its range in an external level 4; an accepted commit or revert stores each byte of the header once, a signed one each of the signature too; no other
 /// call stores. A byte that changes was stored to, or else the trace has not seen all.
 fn judge_call(prepared: &Prepared, stores: &[u32], tally: &mut Tally) -> Result<(), String> {
     let mut after = prepared.image.clone();
     let accepted = prepared.call.perform(&Rules, &mut after, &mut prepared.session.clone()).accepted();
     let kind = kind_of(&prepared.call);
-    let allowed = match kind {
-        "begin" | "write" => open(&prepared.image).ok().map(|opened| free_bytes(&prepared.image, &opened)),
+    let allowed = match (kind, open(&prepared.image)) {
+        ("write", Ok(opened)) if accepted => Some(writable_bytes(&prepared.image, &opened, &prepared.call)),
+        ("begin" | "write", Ok(opened)) => Some(free_bytes(&prepared.image, &opened)),
         _ => None,
     };
     for (place, &count) in stores.iter().enumerate() {
         if accepted && stores_once(kind, place) {
-            require(count == 1, || format!("byte {place:#x} of what a commit stores was stored {count} times"))?;
+            require(count == 1, || format!("byte {place:#x} of what a {kind} stores was stored {count} times"))?;
         } else if count > 0 {
             let free = allowed.as_ref().is_some_and(|free| free[place]);
             require(free, || format!("a store to byte {place:#x}, which is protected from it"))?;

@@ -10,7 +10,7 @@ use crate::rules::opening::open;
 use crate::rules::session::{Session, SessionBytes, SESSION_LENGTH};
 use crate::rules::signing::SignerNumbers;
 use crate::subject::Rules;
-use crate::trial::call::{Call, CALL_KINDS};
+use crate::trial::call::{Call, BEGIN, CALL_KINDS, COMMIT, COMMIT_SIGNED, REVERT, REVERT_SIGNED, WRITE};
 use crate::trial::names::NamesCall;
 
 /// One call and all that it gets.
@@ -60,7 +60,7 @@ fn prepare_list(random: &mut Random, mut image: Vec<u8>, prepared: &mut Vec<Prep
     signing_key.sign(&mut image);
     let mut session = [0; SESSION_LENGTH];
     for _ in 0..CALLS_OF_AN_IMAGE {
-        let kind = choose_kind(random, session[0] != 0);
+        let kind = choose_kind(random, &session);
         let call = Call::of_kind(random, &image, opened.as_ref(), &signing_key, kind);
         let mut handed = if random.chance(10) { forged(random, &image) } else { session };
         prepared.push(Prepared { image: image.clone(), session: handed, call: call.clone() });
@@ -70,17 +70,17 @@ fn prepare_list(random: &mut Random, mut image: Vec<u8>, prepared: &mut Vec<Prep
     }
 }
 
-/// Calls that store, most of the time; numbers as `Call::of_kind` has them.
-fn choose_kind(random: &mut Random, begun: bool) -> usize {
-    const BEGIN: usize = 5;
-    const WRITE: usize = 6;
-    const COMMIT: usize = 7;
-    const COMMIT_SIGNED: usize = 12;
+/// Calls that store, most of the time.
+fn choose_kind(random: &mut Random, session: &SessionBytes) -> usize {
+    let begun = session[0] != 0;
+    let remembers = *session != [0; SESSION_LENGTH];
     match random.below(10) {
         0 => random.below(CALL_KINDS as u64) as usize,
         1 if begun => COMMIT,
         2 if begun => COMMIT_SIGNED,
         _ if begun => WRITE,
+        1..=3 if remembers => REVERT,
+        4..=6 if remembers => REVERT_SIGNED,
         _ => BEGIN,
     }
 }
@@ -116,8 +116,10 @@ pub fn to_bytes(prepared: &[Prepared]) -> Vec<u8> {
             Call::OpenSigned { signing_key } => (11, [0, 0], &signing_key_bytes(signing_key)),
             Call::CommitSigned { signing_key } => (12, [0, 0], &signing_key_bytes(signing_key)),
             Call::Faults { room } => (13, [*room as u64, 0], &[]),
-            Call::Names(NamesCall::List { length }) => (14, [0, 0], &vec![0; *length]),
-            Call::Names(NamesCall::Find { folder, name }) => (15, [*folder, 0], name),
+            Call::Revert => (14, [0, 0], &[]),
+            Call::RevertSigned { signing_key } => (15, [0, 0], &signing_key_bytes(signing_key)),
+            Call::Names(NamesCall::List { length }) => (16, [0, 0], &vec![0; *length]),
+            Call::Names(NamesCall::Find { folder, name }) => (17, [*folder, 0], name),
         };
         for number in [kind, numbers[0], numbers[1]] {
             bytes.extend_from_slice(&number.to_le_bytes());
@@ -157,7 +159,9 @@ pub fn from_bytes(mut bytes: &[u8]) -> Vec<Prepared> {
             11 => Call::OpenSigned { signing_key: signing_key_of(data) },
             12 => Call::CommitSigned { signing_key: signing_key_of(data) },
             13 => Call::Faults { room: partition as usize },
-            14 => Call::Names(NamesCall::List { length }),
+            14 => Call::Revert,
+            15 => Call::RevertSigned { signing_key: signing_key_of(data) },
+            16 => Call::Names(NamesCall::List { length }),
             _ => Call::Names(NamesCall::Find { folder: partition, name: data.try_into().expect("16 bytes") }),
         };
         prepared.push(Prepared { image, session, call });

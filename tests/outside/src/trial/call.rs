@@ -1,59 +1,38 @@
 //! One call with its arguments, how it is chosen, and what it gives.
 
+use std::ops::Range;
+
 use super::names::NamesCall;
 use crate::description::{Description, DESCRIPTION_LENGTH};
 use crate::generate::random::Random;
 use crate::generate::signing::{choose_signer, SigningKey};
+use crate::rules::dpfs::View;
+use crate::rules::extent::Extent;
 use crate::rules::faults::{faults, FaultRecord};
 use crate::rules::opening::Opened;
 use crate::rules::session::SessionBytes;
 use crate::rules::signing::{SignerNumbers, LONGEST_BLOCK};
 use crate::subject::Subject;
 
+/// A row for faults has room for so many records.
 #[derive(Clone, Debug)]
 pub enum Call {
     Open,
-    ReadCommitted {
-        partition: u64,
-        place: u64,
-        length: usize,
-    },
-    ReadStaged {
-        partition: u64,
-        place: u64,
-        length: usize,
-    },
-    Verified {
-        partition: u64,
-        block: u64,
-    },
-    CountVerified {
-        partition: u64,
-    },
+    ReadCommitted { partition: u64, place: u64, length: usize },
+    ReadStaged { partition: u64, place: u64, length: usize },
+    Verified { partition: u64, block: u64 },
+    CountVerified { partition: u64 },
     Begin,
-    Write {
-        partition: u64,
-        place: u64,
-        data: Vec<u8>,
-    },
+    Write { partition: u64, place: u64, data: Vec<u8> },
     Commit,
     Abandon,
-    SigningBlock {
-        signer: SignerNumbers,
-    },
-    SigningDigest {
-        signer: SignerNumbers,
-    },
-    OpenSigned {
-        signing_key: SigningKey,
-    },
-    CommitSigned {
-        signing_key: SigningKey,
-    },
-    /// With room for so many records.
-    Faults {
-        room: usize,
-    },
+    SigningBlock { signer: SignerNumbers },
+    SigningDigest { signer: SignerNumbers },
+    OpenSigned { signing_key: SigningKey },
+    CommitSigned { signing_key: SigningKey },
+    Faults { room: usize },
+    Revert,
+    RevertSigned { signing_key: SigningKey },
     Names(NamesCall),
 }
 
@@ -69,7 +48,15 @@ impl std::fmt::Display for Call {
 }
 
 /// How many kinds of calls there are.
-pub const CALL_KINDS: usize = 15;
+pub const CALL_KINDS: usize = 17;
+/// The numbers of some, as `Call::of_kind` has them.
+pub const BEGIN: usize = 5;
+pub const WRITE: usize = 6;
+pub const COMMIT: usize = 7;
+pub const COMMIT_SIGNED: usize = 12;
+pub const FAULTS: usize = 13;
+pub const REVERT: usize = 14;
+pub const REVERT_SIGNED: usize = 15;
 
 /// Everything that a call hands back besides image and session.
 #[derive(Clone, Debug, PartialEq, Eq)]
@@ -126,6 +113,8 @@ impl Call {
             Call::OpenSigned { .. } => "open signed",
             Call::CommitSigned { .. } => "commit signed",
             Call::Faults { .. } => "faults",
+            Call::Revert => "revert",
+            Call::RevertSigned { .. } => "revert signed",
             Call::Names(call) => call.name(),
         }
     }
@@ -144,6 +133,19 @@ impl Call {
         match self {
             Call::Faults { room } => *room,
             _ => 0,
+        }
+    }
+
+    /// The positions that the call may change at once: what a write is given in an external level 4.
+    pub fn written_in_place(&self, opened: &Opened) -> Range<usize> {
+        let Call::Write { partition, place, data } = self else { return 0..0 };
+        let Ok(partition) = opened.partition(*partition) else { return 0..0 };
+        let range = Extent::new(*place, data.len() as u64);
+        match partition.written_in_place(range) {
+            Some(extent) if range.lies_in(partition.descriptor.hash_level(4).extent.size) => {
+                extent.offset as usize..extent.end() as usize
+            }
+            _ => 0..0,
         }
     }
 
@@ -180,6 +182,10 @@ impl Call {
                 subject.commit_signed(image, session, &signing_key.key, &signing_key.signer)
             }
             Call::Faults { .. } => subject.faults(image, &mut row),
+            Call::Revert => subject.revert(image, session),
+            Call::RevertSigned { signing_key } => {
+                subject.revert_signed(image, session, &signing_key.key, &signing_key.signer)
+            }
             Call::Names(call) => call.perform(subject, image, &mut buffer),
         };
         Outcome { answer, buffer, description, row }
@@ -195,9 +201,9 @@ impl Call {
         begun: bool,
     ) -> Call {
         let shares: [u64; CALL_KINDS] = if begun {
-            [2, 10, 18, 6, 2, 3, 44, 7, 4, 4, 3, 4, 7, 5, 2]
+            [2, 10, 18, 6, 2, 3, 44, 7, 4, 4, 3, 4, 7, 5, 2, 2, 2]
         } else {
-            [3, 20, 4, 14, 5, 40, 6, 4, 4, 6, 4, 12, 4, 10, 5]
+            [3, 20, 4, 14, 5, 40, 6, 4, 4, 6, 4, 12, 4, 10, 12, 12, 5]
         };
         let mut share = random.below(shares.iter().sum());
         let mut number = 0;
@@ -230,18 +236,23 @@ impl Call {
             }
             3 => Call::Verified { partition, block: choose_block(random, data_size.div_ceil(block_size)) },
             4 => Call::CountVerified { partition },
-            5 => Call::Begin,
-            6 => {
+            BEGIN => Call::Begin,
+            WRITE => {
                 let (place, length) = choose_written(random, data_size, block_size);
-                Call::Write { partition, place, data: random.bytes(length) }
+                let data = random.bytes(length);
+                let rewritten =
+                    if random.chance(10) { bytes_there(image, opened, partition, place, length) } else { None };
+                Call::Write { partition, place, data: rewritten.unwrap_or(data) }
             }
-            7 => Call::Commit,
+            COMMIT => Call::Commit,
             8 => Call::Abandon,
             9 => Call::SigningBlock { signer: choose_signer(random) },
             10 => Call::SigningDigest { signer: choose_signer(random) },
             11 => Call::OpenSigned { signing_key: signing_key.vary(random) },
-            12 => Call::CommitSigned { signing_key: signing_key.vary(random) },
-            13 => Call::Faults { room: choose_room(random, faults(image).map_or(3, |list| list.len())) },
+            COMMIT_SIGNED => Call::CommitSigned { signing_key: signing_key.vary(random) },
+            FAULTS => Call::Faults { room: choose_room(random, faults(image).map_or(3, |list| list.len())) },
+            REVERT => Call::Revert,
+            REVERT_SIGNED => Call::RevertSigned { signing_key: signing_key.vary(random) },
             _ => Call::Names(NamesCall::choose(random, &[])),
         }
     }
@@ -281,6 +292,14 @@ fn data_shape(opened: Option<&Opened>, partition: u64) -> (u64, u64) {
         }
         None => (100, 32),
     }
+}
+
+/// The committed bytes of a range of level 4, if there is one.
+fn bytes_there(image: &[u8], opened: Option<&Opened>, partition: u64, place: u64, length: usize) -> Option<Vec<u8>> {
+    let opened = opened?;
+    let view = View::committed(image, opened, opened.partition(partition).ok()?);
+    let range = Extent::new(place, length as u64);
+    range.lies_in(view.data_size()).then(|| view.level_bytes(4, range.offset, range.end()))
 }
 
 fn choose_block(random: &mut Random, blocks: u64) -> u64 {

@@ -15,13 +15,12 @@ pub fn run(subject: Option<&dyn Subject>, tally: &mut Tally) -> Result<(), Strin
     for seed in 0..IMAGES {
         let random = &mut Random::new(seed);
         let data = (random.between(1, 2000), random.between(5, 9));
-        let wanted =
-            Wanted { fresh: Some(true), external: Some(false), data: Some(data), spare: Some(20), ..Wanted::default() };
+        let wanted = Wanted { fresh: Some(true), data: Some(data), spare: Some(20), ..Wanted::default() };
         let sample = valid_image(random, &wanted);
         let partition = random.below(sample.opened.partitions.len() as u64);
         let calls = first_writes(random, partition, data.0, 1 << data.1);
         List::new(random, sample, subject, tally)
-            .run_calls(&calls)
+            .run_sessions(calls.into_iter().map(|call| (0, call)).collect())
             .map_err(|complaint| format!("fresh ground, seed {seed}: {complaint}"))?;
     }
     Ok(())

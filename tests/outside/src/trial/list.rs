@@ -1,21 +1,25 @@
 //! A list of calls on one image. After each call the two views must equal the reference model's versions, protected
 //! bytes must be as before, and the subject must have done just the same.
 
-use super::call::{Call, Outcome, UNTOUCHED_DESCRIPTION};
+use super::call::{Call, Outcome, UNTOUCHED_DESCRIPTION, WRITE};
 use super::faults::{check_row, list_of};
 use super::names::{begins_like_a_save, check_names, choose_small_write, NamesCall};
+use super::power::scramble;
 use super::properties::{
-    check_begin, check_commit, check_signed_commit, check_write, finish_write, require, touched_on_each_level,
+    check_begin, check_commit, check_revert, check_signed_commit, check_signed_revert, check_write, finish_write,
+    require, touched_on_each_level, writable_bytes,
 };
 use super::rows::touches_row;
+use super::sample_of;
 use super::signatures::signed_answer;
-use super::signing::{check_signing, kind_of};
+use super::signing::{check_signing, expected_refusal, kind_of};
 use super::tally::Tally;
 use crate::description::{describe, name_at, Description};
 use crate::generate::random::Random;
 use crate::generate::signing::SigningKey;
 use crate::generate::Sample;
 use crate::model::{Model, Version};
+use crate::rules::calls::touched_blocks;
 use crate::rules::dpfs::View;
 use crate::rules::extent::Extent;
 use crate::rules::faults::FaultRecord;
@@ -23,7 +27,8 @@ use crate::rules::header::{HEADER, HEADER_LENGTH};
 use crate::rules::opening::{open, Opened};
 use crate::rules::protected::free_bytes;
 use crate::rules::refusal::{answer_code, Refusal};
-use crate::rules::session::{Session, SessionBytes, SESSION_LENGTH};
+use crate::rules::session::{header_bytes, HeaderBytes, Session, SessionBytes, SESSION_LENGTH};
+use crate::rules::sha256::sha256;
 use crate::rules::signing::SIGNATURE_LENGTH;
 use crate::subject::{Rules, Subject};
 
@@ -42,6 +47,20 @@ pub struct List<'a> {
     models: Vec<Model>,
     /// Which bytes calls other than commit may change, under the image that the last commit left.
     free: Vec<bool>,
+    /// The last commit, until a header lands that is not known to come of it.
+    last_commit: Option<LastCommit>,
+    /// Which bytes were written in place since then: after a power failure they too may hold anything.
+    in_place: Vec<bool>,
+}
+
+/// All about the last commit that a revert of it must bring back.
+struct LastCommit {
+    before: Vec<u8>,
+    after: Vec<u8>,
+    /// The session that it left.
+    session: SessionBytes,
+    opened: Opened,
+    models: Vec<Model>,
 }
 
 impl<'a> List<'a> {
@@ -56,13 +75,8 @@ impl<'a> List<'a> {
             signing_key.sign(&mut sample.image);
         }
         let free = free_bytes(&sample.image, &sample.opened);
-        let models = sample
-            .opened
-            .partitions
-            .iter()
-            .zip(sample.versions)
-            .map(|(partition, version)| Model::new(partition.descriptor.hash_level(4).block_size() as usize, version))
-            .collect();
+        let in_place = vec![false; free.len()];
+        let models = models_of(&sample);
         List {
             subject,
             tally,
@@ -73,6 +87,8 @@ impl<'a> List<'a> {
             opened: sample.opened,
             models,
             free,
+            last_commit: None,
+            in_place,
         }
     }
 
@@ -102,16 +118,6 @@ impl<'a> List<'a> {
         Ok(())
     }
 
-    /// Makes these calls, one after the other, in one session.
-    pub fn run_calls(&mut self, calls: &[Call]) -> Result<(), String> {
-        for call in calls {
-            let mut session = self.session;
-            self.try_call(call, &mut session).map_err(|complaint| format!("{call}: {complaint}"))?;
-            self.session = session;
-        }
-        Ok(())
-    }
-
     /// Any call; where there is a save, often one for its names or a write that changes little of it.
     fn choose_call(&self, random: &mut Random) -> Call {
         let level4 = &self.models[0].committed.bytes;
@@ -128,32 +134,57 @@ impl<'a> List<'a> {
         Call::choose(random, &self.image, Some(&self.opened), &self.signing_key, self.session[0] != 0)
     }
 
+    /// Makes these calls, one after the other, each in one of two sessions.
+    pub fn run_sessions(&mut self, calls: Vec<(usize, Call)>) -> Result<(), String> {
+        let mut sessions = [[0; SESSION_LENGTH]; 2];
+        for (number, (session, call)) in calls.into_iter().enumerate() {
+            self.try_call(&call, &mut sessions[session])
+                .map_err(|complaint| format!("call {number}, {call}: {complaint}"))?;
+        }
+        Ok(())
+    }
+
     fn held(&self) -> bool {
         self.models[0].staged.is_some()
     }
 
-    fn header(&self) -> &[u8] {
-        &self.image[HEADER..HEADER + HEADER_LENGTH]
-    }
-
     /// A session value that no call has handed out just now.
     fn forge_session(&self, random: &mut Random) -> SessionBytes {
-        let mut session = [0; SESSION_LENGTH];
-        match random.below(6) {
-            0 => session[1..].copy_from_slice(&random.bytes(HEADER_LENGTH)), // idle, with leftovers
-            1 => session.copy_from_slice(&random.bytes(SESSION_LENGTH)),
-            2 if !self.kept.is_empty() => session = self.kept[random.below(self.kept.len() as u64) as usize],
-            3 => {
-                session[0] = 1;
-                session[1..].copy_from_slice(self.header());
-                session[1 + random.below(HEADER_LENGTH as u64) as usize] ^= 1 << random.below(8);
-            }
+        let present = header_bytes(&self.image);
+        let mut session = match random.below(8) {
+            0 => random.bytes(SESSION_LENGTH).try_into().expect("a session's length"),
+            1..=2 if !self.kept.is_empty() => self.kept[random.below(self.kept.len() as u64) as usize],
+            3..=4 => Session::Idle { former: self.forge_former(random), latter: present }.to_bytes(),
             _ => {
+                let mut session = Session::Begun(present).to_bytes();
                 session[0] = random.between(1, 255) as u8;
-                session[1..].copy_from_slice(self.header());
+                let noise = random.bytes(HEADER_LENGTH);
+                session[1 + HEADER_LENGTH..].copy_from_slice(&noise);
+                session
             }
+        };
+        if random.chance(15) {
+            session[random.below(SESSION_LENGTH as u64) as usize] ^= 1 << random.below(8);
         }
         session
+    }
+
+    /// A header that no commit was made on: one of the other table as it is, which an image may open under, one with
+    /// other bytes where none is read, the present one, or noise.
+    fn forge_former(&self, random: &mut Random) -> HeaderBytes {
+        let kind = self.opened.header.kind;
+        let mut former = header_bytes(&self.image);
+        match random.below(4) {
+            0 | 1 => {
+                let digest = sha256(self.opened.header.inactive_table().of(&self.image));
+                former[kind.flag_place().0] ^= 1;
+                former[kind.hash_place()..kind.hash_place() + 32].copy_from_slice(&digest);
+            }
+            2 => former[random.between(kind.hash_place() as u64 + 32, HEADER_LENGTH as u64 - 1) as usize] ^= 1,
+            _ if random.chance(50) => {}
+            _ => former = random.bytes(HEADER_LENGTH).try_into().expect("a header's length"),
+        }
+        former
     }
 
     /// Makes one call and checks everything about it.
@@ -230,6 +261,7 @@ impl<'a> List<'a> {
                 Some(Prediction::Answer(0))
             }
             Call::CommitSigned { .. } => refused(Refusal::WrongSigner),
+            Call::Revert | Call::RevertSigned { .. } => self.predict_revert(call, image, session),
             Call::OpenSigned { signing_key } => Some(Prediction::Answer(signed_answer(image, signing_key, 0))),
             Call::Begin if session[0] == 0 => Some(Prediction::Answer(0)),
             Call::Abandon if session[0] != 0 => Some(Prediction::Answer(0)),
@@ -251,13 +283,35 @@ impl<'a> List<'a> {
         }
     }
 
+    /// Is this what the last commit left, in session and image? The signature is not asked.
+    fn is_last_commit(&self, last: &LastCommit, image: &[u8], session: &SessionBytes) -> bool {
+        last.session == *session && last.after[HEADER..] == image[HEADER..]
+    }
+
+    /// The last commit can be taken back. Of any other memory the image tells whether it opens under the former header.
+    fn predict_revert(&self, call: &Call, image: &[u8], session: &SessionBytes) -> Option<Prediction> {
+        let Session::Idle { former, latter } = Session::from_bytes(session) else {
+            return refused(Refusal::WrongSession);
+        };
+        let mut reverted = image.to_vec();
+        reverted[HEADER..HEADER + HEADER_LENGTH].copy_from_slice(&former);
+        let is_last = self.last_commit.as_ref().is_some_and(|last| self.is_last_commit(last, image, session));
+        if !is_last && (latter != header_bytes(image) || open(&reverted).is_err()) {
+            return refused(Refusal::NoWayBack);
+        }
+        match call {
+            Call::RevertSigned { signing_key } => {
+                Some(Prediction::Answer(expected_refusal(&reverted, signing_key.signer)))
+            }
+            _ => Some(Prediction::Answer(0)),
+        }
+    }
+
     /// The prediction for a call that needs a begun session, if the session decides it.
     fn predict_session(&self, image: &[u8], session: &SessionBytes) -> Result<(), Option<Prediction>> {
         match Session::from_bytes(session) {
-            Session::Idle => Err(refused(Refusal::WrongSession)),
-            Session::Begun(remembered) if remembered[..] != image[HEADER..HEADER + HEADER_LENGTH] => {
-                Err(refused(Refusal::Outdated))
-            }
+            Session::Idle { .. } => Err(refused(Refusal::WrongSession)),
+            Session::Begun(remembered) if remembered != header_bytes(image) => Err(refused(Refusal::Outdated)),
             // Without a staged version the model does not know what the inactive table holds.
             Session::Begun(_) if !self.held() => Err(None),
             Session::Begun(_) => Ok(()),
@@ -279,9 +333,6 @@ impl<'a> List<'a> {
             Call::CountVerified { .. } => Some(Prediction::Answer(answer_code(Ok(model.committed.count_verified())))),
             Call::Write { place, data, .. } => {
                 let partition = &self.opened.partitions[partition];
-                if partition.descriptor.external.is_some() {
-                    return refused(Refusal::ExternalWrite);
-                }
                 if let Err(refusal) = model.staged.as_ref()?.write(*place, data.len(), model.block_size) {
                     return refused(refusal);
                 }
@@ -307,15 +358,22 @@ impl<'a> List<'a> {
     ) -> Result<(), String> {
         let expected_session = match call {
             Call::Begin => Session::begun(before).to_bytes(),
-            Call::Commit | Call::CommitSigned { .. } | Call::Abandon => [0; SESSION_LENGTH],
+            Call::Commit | Call::CommitSigned { .. } => {
+                Session::Idle { former: header_bytes(before), latter: header_bytes(&self.image) }.to_bytes()
+            }
+            Call::Abandon | Call::Revert | Call::RevertSigned { .. } => [0; SESSION_LENGTH],
             _ => *session_before,
         };
         require(*session == expected_session, || "the session is wrong".into())?;
-        self.check_image(call, before)?;
+        self.check_image(call, before, session_before)?;
         match call {
-            Call::Commit => return self.follow_commit(),
-            Call::CommitSigned { signing_key } => {
-                self.follow_commit()?;
+            Call::Commit => return self.follow_commit(before, session),
+            Call::Revert => return self.follow_revert(before, session_before),
+            Call::CommitSigned { signing_key } | Call::RevertSigned { signing_key } => {
+                match call {
+                    Call::CommitSigned { .. } => self.follow_commit(before, session)?,
+                    _ => self.follow_revert(before, session_before)?,
+                }
                 self.signing_key = *signing_key;
                 return self.check_signed();
             }
@@ -323,7 +381,7 @@ impl<'a> List<'a> {
             Call::Faults { .. } => check_row(outcome, &self.expected_faults())?,
             _ => {}
         }
-        self.check_protected(before)?;
+        self.check_protected(call, before)?;
         self.feed(call);
         Ok(())
     }
@@ -346,15 +404,20 @@ impl<'a> List<'a> {
         require(*session == [0; SESSION_LENGTH], || "17 leaves a session".into())?;
         require(*outcome == Outcome::refused(call, outcome.answer), || "17 changed what it was lent".into())?;
         self.models.iter_mut().for_each(Model::abandon_accepted);
-        self.check_protected(before)
+        self.check_protected(call, before)?;
+        self.follow_in_place();
+        Ok(())
     }
 
     /// What an accepted call has changed in the image is what it must change.
-    fn check_image(&mut self, call: &Call, before: &[u8]) -> Result<(), String> {
+    fn check_image(&mut self, call: &Call, before: &[u8], session: &SessionBytes) -> Result<(), String> {
+        let (Session::Idle { former, .. } | Session::Begun(former)) = Session::from_bytes(session);
         match call {
             Call::Begin => check_begin(before, &self.image, &self.opened),
             Call::Commit => check_commit(before, &self.image, &self.opened),
             Call::CommitSigned { signing_key } => check_signed_commit(before, &self.image, &self.opened, signing_key),
+            Call::Revert => check_revert(before, &self.image, &former),
+            Call::RevertSigned { signing_key } => check_signed_revert(before, &self.image, &former, signing_key),
             Call::Write { partition, place, data } => {
                 let partition = &self.opened.partitions[*partition as usize];
                 let range = Extent::new(*place, data.len() as u64);
@@ -378,11 +441,15 @@ impl<'a> List<'a> {
         }
     }
 
-    /// The faults of level 4 are the model's; of the hash blocks, which it does not know, each level is judged at once.
+    /// The faults of level 4 are the model's; the hash blocks, which it does not know, are judged one by one.
     fn expected_faults(&self) -> Vec<FaultRecord> {
         let by_partition = self.opened.partitions.iter().zip(&self.models).map(|(partition, model)| {
             let view = View::committed(&self.image, &self.opened, partition);
-            let [one, two, three] = [1, 2, 3].map(|level| view.verified_blocks(level));
+            let judged = |level: usize| -> Vec<bool> {
+                let blocks = 0..partition.descriptor.hash_level(level).blocks();
+                blocks.map(|block| view.verified(level, block)).collect()
+            };
+            let [one, two, three] = [1, 2, 3].map(judged);
             [one, two, three, model.committed.verified.clone()]
         });
         list_of(&by_partition.collect::<Vec<_>>())
@@ -415,14 +482,26 @@ impl<'a> List<'a> {
             Call::Begin => self.models.iter_mut().for_each(Model::begin_accepted),
             Call::Abandon => self.models.iter_mut().for_each(Model::abandon_accepted),
             Call::Write { partition, place, data } => {
-                self.models[*partition as usize].write_accepted(*place as usize, data);
+                let model = &mut self.models[*partition as usize];
+                let partition = &self.opened.partitions[*partition as usize];
+                let view = View::committed(&self.image, &self.opened, partition);
+                model.write_accepted(*place as usize, data, |block| view.verified(4, block as u128));
+                if partition.descriptor.external.is_some() {
+                    for block in touched_blocks(partition, Extent::new(*place, data.len() as u64)) {
+                        self.tally.in_place[usize::from(model.committed.verified[block as usize])] += 1;
+                    }
+                }
             }
             _ => {}
         }
     }
 
     /// After a commit the other table is active, and other bytes are protected.
-    fn follow_commit(&mut self) -> Result<(), String> {
+    fn follow_commit(&mut self, before: &[u8], session: &SessionBytes) -> Result<(), String> {
+        let (opened, mut models) = (self.opened.clone(), self.models.clone());
+        models.iter_mut().for_each(Model::abandon_accepted);
+        self.last_commit =
+            Some(LastCommit { before: before.to_vec(), after: self.image.clone(), session: *session, opened, models });
         self.opened.header.flag = 1 - self.opened.header.flag;
         for partition in &mut self.opened.partitions {
             partition.descriptor.selector = 1 - partition.descriptor.selector;
@@ -431,18 +510,66 @@ impl<'a> List<'a> {
         for (model, partition) in self.models.iter_mut().zip(&self.opened.partitions) {
             if !model.commit_accepted() {
                 // A forged session has committed something that the model never saw: it starts anew.
-                model.committed = version_of(&View::committed(&self.image, &self.opened, partition));
+                model.committed_anew(version_of(&View::committed(&self.image, &self.opened, partition)));
             }
         }
-        self.free = free_bytes(&self.image, &self.opened);
+        self.protect_anew();
         Ok(())
     }
 
-    fn check_protected(&self, before: &[u8]) -> Result<(), String> {
-        let changed = (0..before.len()).find(|place| !self.free[*place] && before[*place] != self.image[*place]);
+    /// After a revert of the last commit all is as before that commit, but for the signature. What another memory brings
+    /// back is whatever the image then shows.
+    fn follow_revert(&mut self, before: &[u8], session_before: &SessionBytes) -> Result<(), String> {
+        match self.last_commit.take() {
+            Some(last) if self.is_last_commit(&last, before, session_before) => {
+                require(last.before[HEADER..] == self.image[HEADER..], || {
+                    "it is not the image before that commit".into()
+                })?;
+                self.opened = last.opened;
+                self.models = last.models;
+                self.tally.reverted += 1;
+            }
+            _ => {
+                self.opened = open(&self.image).map_err(|refusal| format!("it opens no more: {refusal:?}"))?;
+                self.models = models_of(&sample_of(self.image.clone(), self.opened.clone()));
+            }
+        }
+        require(open(&self.image).as_ref() == Ok(&self.opened), || "opening says something else".into())?;
+        self.protect_anew();
+        Ok(())
+    }
+
+    /// A header has landed: other bytes are protected now.
+    fn protect_anew(&mut self) {
+        self.free = free_bytes(&self.image, &self.opened);
+        self.in_place.fill(false);
+    }
+
+    /// Protected bytes are as before, but for the range that a write was given in an external level 4.
+    fn check_protected(&mut self, call: &Call, before: &[u8]) -> Result<(), String> {
+        let written = call.written_in_place(&self.opened);
+        let protected = |place: &usize| !self.free[*place] && !written.contains(place);
+        let changed = (0..before.len()).find(|place| protected(place) && before[*place] != self.image[*place]);
+        self.in_place[written].fill(true);
         match changed {
             Some(place) => Err(format!("the protected byte at {place:#x} changed")),
             None => Ok(()),
+        }
+    }
+
+    /// External levels may hold other bytes than before: the models take them as they are.
+    fn follow_in_place(&mut self) {
+        for (partition, model) in self.opened.partitions.iter().zip(&mut self.models) {
+            let view = View::committed(&self.image, &self.opened, partition);
+            if partition.descriptor.external.is_none() {
+                continue;
+            }
+            for (block, bytes) in view.data().chunks(model.block_size).enumerate() {
+                let place = block * model.block_size;
+                if model.committed.bytes[place..place + bytes.len()] != *bytes {
+                    model.laid_in_place(place, bytes, |block| view.verified(4, block as u128));
+                }
+            }
         }
     }
 
@@ -459,20 +586,24 @@ impl<'a> List<'a> {
         Ok(())
     }
 
-    /// Power fails inside a call: any free byte may hold anything. Both openings and the committed view are as before.
+    /// Power fails inside a call: any free byte may hold anything, and any that was written in place or was about to be.
+    /// Both openings and the committed view of all else are as before.
     fn fail_power(&mut self, random: &mut Random) -> Result<(), String> {
         self.tally.power_failures += 1;
         let signed_before = self.signed_answer();
-        let share = random.pick(&[100, 100, 50, 5]);
-        let table = self.opened.header.inactive_table();
-        let keep_table = random.chance(30);
-        for (place, byte) in self.image.iter_mut().enumerate() {
-            let in_table = (table.offset..table.end()).contains(&(place as u128));
-            if self.free[place] && !(keep_table && in_table) && random.chance(share) {
-                *byte = random.below(256) as u8;
-            }
+        let write = Call::of_kind(random, &self.image, Some(&self.opened), &self.signing_key, WRITE);
+        if random.chance(50) {
+            self.in_place[write.written_in_place(&self.opened)].fill(true);
         }
+        let mut open: Vec<bool> =
+            self.free.iter().zip(&self.in_place).map(|(free, written)| *free || *written).collect();
+        if random.chance(30) {
+            let table = self.opened.header.inactive_table();
+            open[table.offset as usize..table.end() as usize].fill(false);
+        }
+        scramble(random, &mut self.image, &open);
         self.models.iter_mut().for_each(Model::abandon_accepted);
+        self.follow_in_place();
         if random.chance(70) {
             self.kept.push(self.session);
             self.session = [0; SESSION_LENGTH];
@@ -559,7 +690,18 @@ fn refused(refusal: Refusal) -> Option<Prediction> {
     Some(Prediction::Answer(answer_code(Err(refusal))))
 }
 
-fn version_of(view: &View) -> Version {
+/// The reference model of each partition.
+fn models_of(sample: &Sample) -> Vec<Model> {
+    let partitions = sample.opened.partitions.iter().zip(&sample.versions);
+    partitions
+        .map(|(partition, version)| {
+            let block_size = partition.descriptor.hash_level(4).block_size() as usize;
+            Model::new(block_size, partition.descriptor.external.is_some(), version.clone())
+        })
+        .collect()
+}
+
+pub fn version_of(view: &View) -> Version {
     Version { bytes: view.data(), verified: view.verified_blocks(4) }
 }
 
@@ -579,9 +721,9 @@ pub fn compare_subject(
     require(other.answer == outcome.answer, || {
         format!("the subject answered {:#x}, not {:#x}", other.answer, outcome.answer)
     })?;
-    // After 17 bytes that are free may hold anything.
+    // After 17 bytes that are free may hold anything, and those that the write was to change in place.
     let free = match open(before) {
-        Ok(opened) if outcome.answer == answer_code(Err(Refusal::ZeroDigest)) => free_bytes(before, &opened),
+        Ok(opened) if outcome.answer == answer_code(Err(Refusal::ZeroDigest)) => writable_bytes(before, &opened, call),
         _ => vec![false; before.len()],
     };
     let place = (0..image.len()).find(|place| !free[*place] && image[*place] != other_image[*place]);

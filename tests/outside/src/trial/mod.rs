@@ -10,12 +10,15 @@ mod full_bits;
 mod leftovers;
 pub mod list;
 pub mod names;
+mod power;
 pub mod properties;
+mod reverts;
 mod rows;
 pub mod saves;
 mod signatures;
 mod signing;
 pub mod tally;
+pub mod term;
 mod zero_digests;
 
 use crate::description::Description;
@@ -78,7 +81,7 @@ pub fn run_case(seed: u64, subject: Option<&dyn Subject>, tally: &mut Tally) -> 
 const TRIES_OF_EACH_DAMAGE: u64 = 40;
 
 /// Cases that every run must have tried: each damage, levels of bits that are full, faults on every level, first writes on fresh
-/// ground, digests of zeros, leftovers in the header, the limits of an image's length, each bit of a signature, a long
+/// ground, steps back, digests of zeros, leftovers in the header, the limits of an image's length, each bit of a signature, a long
 /// message, blank images, saves of every form.
 pub fn run_fixed_cases(subject: Option<&dyn Subject>, tally: &mut Tally) -> Result<(), String> {
     let random = &mut Random::new(0);
@@ -92,6 +95,7 @@ pub fn run_fixed_cases(subject: Option<&dyn Subject>, tally: &mut Tally) -> Resu
     full_bits::run(subject, tally)?;
     faults::run(subject, tally)?;
     fresh::run(subject, tally)?;
+    reverts::run(subject, tally)?;
     zero_digests::run(subject, tally)?;
     leftovers::run(subject, tally).map_err(|complaint| format!("leftovers: {complaint}"))?;
     let mut image = valid_image(&mut Random::new(0), &Wanted::default()).image;

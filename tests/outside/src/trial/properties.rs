@@ -2,6 +2,7 @@
 
 use std::ops::Range;
 
+use super::call::Call;
 use super::signatures::expected_signature;
 use crate::generate::contents::put;
 use crate::generate::signing::SigningKey;
@@ -12,6 +13,8 @@ use crate::rules::dpfs::{bit_place, View};
 use crate::rules::extent::Extent;
 use crate::rules::header::HEADER;
 use crate::rules::opening::{Opened, Partition};
+use crate::rules::protected::free_bytes;
+use crate::rules::session::HeaderBytes;
 use crate::rules::sha256::sha256;
 use crate::rules::signing::SIGNATURE_LENGTH;
 
@@ -68,6 +71,25 @@ pub fn check_signed_commit(
     check_committed(before, after, opened, 0..SIGNATURE_LENGTH)
 }
 
+/// A revert leaves the former header and changes nothing else.
+pub fn check_revert(before: &[u8], after: &[u8], former: &HeaderBytes) -> Result<(), String> {
+    let mut expected = before.to_vec();
+    put(&mut expected, HEADER, former);
+    require(after == expected, || "revert: the image is wrong".into())
+}
+
+/// A signed one leaves the signature of the former header too.
+pub fn check_signed_revert(
+    before: &[u8],
+    after: &[u8],
+    former: &HeaderBytes,
+    signing_key: &SigningKey,
+) -> Result<(), String> {
+    let mut signed = before.to_vec();
+    put(&mut signed, 0, &expected_signature(after, signing_key));
+    check_revert(&signed, after, former)
+}
+
 /// Flag and hash are the new ones; besides them only bytes in `signature` may change.
 fn check_committed(before: &[u8], after: &[u8], opened: &Opened, signature: Range<usize>) -> Result<(), String> {
     let kind = opened.header.kind;
@@ -80,6 +102,13 @@ fn check_committed(before: &[u8], after: &[u8], opened: &Opened, signature: Rang
         require(old == new || may_change, || format!("commit: changed the byte at {position:#x}"))?;
     }
     Ok(())
+}
+
+/// The bytes that a call other than commit may change: free ones, and those that a write changes in place.
+pub fn writable_bytes(image: &[u8], opened: &Opened, call: &Call) -> Vec<bool> {
+    let mut writable = free_bytes(image, opened);
+    writable[call.written_in_place(opened)].fill(true);
+    writable
 }
 
 /// What the staged view holds once a write has finished, worked out on whole levels without any copies.
@@ -168,9 +197,11 @@ fn check_staged_bytes(old: &View, new: &View, finished: &Finished) -> Result<(),
     let descriptor = &old.partition.descriptor;
     let size = descriptor.level3.extent.size;
     let mut expected = old.level3_bytes(0, size);
-    for (shape, bytes) in descriptor.hash_levels.iter().zip(&finished.levels) {
+    let inside = if descriptor.external.is_some() { 3 } else { 4 };
+    for (shape, bytes) in descriptor.hash_levels[..inside].iter().zip(&finished.levels) {
         put(&mut expected, shape.extent.offset as usize, bytes);
     }
+    require(new.data() == finished.levels[3], || "write: level 4 is wrong".into())?;
     let bytes = new.level3_bytes(0, size);
     let place = (0..bytes.len()).find(|place| bytes[*place] != expected[*place]);
     require(place.is_none(), || format!("write: staged level 3 is wrong at {:#x}", place.unwrap_or(0)))
@@ -229,7 +260,10 @@ fn stored_ranges(partition: &Partition, range: Extent, finished: &Finished) -> V
     }
     let shapes = partition.descriptor.hash_levels;
     let touched = touched_on_each_level(partition, range);
-    let mut stored = vec![Extent { offset: shapes[3].extent.offset + range.offset, size: range.size }];
+    let mut stored = match partition.descriptor.external {
+        Some(_) => Vec::new(),
+        None => vec![Extent { offset: shapes[3].extent.offset + range.offset, size: range.size }],
+    };
     for level in [1, 2, 3] {
         let below = &touched[level + 1];
         let offset = shapes[level - 1].extent.offset + ENTRY * below.start;

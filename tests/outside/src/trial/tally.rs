@@ -4,7 +4,7 @@ use super::properties::rebuilt_extent;
 use crate::rules::calls::blocks_of;
 use crate::rules::opening::Partition;
 
-pub const CALLS: [&str; 20] = [
+pub const CALLS: [&str; 22] = [
     "open",
     "read committed",
     "read staged",
@@ -19,6 +19,8 @@ pub const CALLS: [&str; 20] = [
     "open signed",
     "commit signed",
     "faults",
+    "revert",
+    "revert signed",
     "digest start",
     "digest feed",
     "digest finish",
@@ -35,6 +37,8 @@ pub struct Tally {
     /// By call and refusal number; 0 is accepted.
     pub answers: [[u64; NUMBERS]; CALLS.len()],
     pub power_failures: u64,
+    /// Accepted reverts of the commit that was the last one, with nothing changed since.
+    pub reverted: u64,
     /// Accepted writes in which a level 3 block had moved already, so that it must be left alone.
     pub writes_upon_writes: u64,
     /// Accepted writes that reach an entry of the master hash other than the first.
@@ -45,8 +49,24 @@ pub struct Tally {
     pub rebuilt: [u64; 3],
     pub rebuilt_across: u64,
     pub rebuilt_short: u64,
+    /// Blocks that were written in place and are, before the commit, not verified in the committed view, and ones that are.
+    pub in_place: [u64; 2],
     /// Writes that met a digest of zeros, by the level of the block that has it.
     pub zero_digests: [u64; 4],
+    pub terms: Terms,
+}
+
+/// What the runs of many sessions have met.
+#[derive(Clone, Debug, Default)]
+pub struct Terms {
+    /// Headers that have landed.
+    pub commits: u64,
+    pub reverts: u64,
+    /// Power failures; those before a header landed, which are among them; those as soon as one had.
+    pub cuts: u64,
+    pub cut_before_landing: u64,
+    pub cut_after_landing: u64,
+    pub zero_digests: u64,
 }
 
 impl Tally {
@@ -100,6 +120,17 @@ impl std::fmt::Display for Tally {
             out,
             "\nhash blocks rebuilt on levels 1 to 3 {:?}, across blocks of DPFS level 3 {}, with a short end {}; digests of zeros on levels 1 to 4 {:?}",
             self.rebuilt, self.rebuilt_across, self.rebuilt_short, self.zero_digests
+        )?;
+        let [unverified, verified] = self.in_place;
+        write!(
+            out,
+            "\nblocks written in place that are verified before the commit {verified}, not verified {unverified}; commits reverted {}",
+            self.reverted
+        )?;
+        let Terms { commits, reverts, cuts, cut_before_landing, cut_after_landing, zero_digests } = self.terms;
+        write!(
+            out,
+            "\nin runs of many sessions: commits {commits}, reverts {reverts}, digests of zeros {zero_digests}, power failures {cuts}, before a header landed {cut_before_landing}, right after one {cut_after_landing}"
         )
     }
 }

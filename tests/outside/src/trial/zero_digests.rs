@@ -24,9 +24,8 @@ pub fn run(subject: Option<&dyn Subject>, tally: &mut Tally) -> Result<(), Strin
 pub fn run_case(random: &mut Random, subject: Option<&dyn Subject>, tally: &mut Tally) -> Result<(), String> {
     let zeroed = random.pick(&[2, 8, 30]);
     with_stand_in(zeroed, || {
-        let external = if random.chance(5) { None } else { Some(false) };
         let data = (random.between(1, 900), random.between(5, 7));
-        let sample = valid_image(random, &Wanted { external, data: Some(data), ..Wanted::default() });
+        let sample = valid_image(random, &Wanted { data: Some(data), ..Wanted::default() });
         let calls = random.between(10, 40);
         List::new(random, sample, subject.filter(|subject| subject.takes_stand_in()), tally).run(random, calls)
     })
