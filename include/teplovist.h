@@ -3,14 +3,15 @@
  *
  * A call works on what the caller lends it, an image that is decrypted and whole or a running digest, and keeps nothing between calls. The
  * first 16 bytes of an image are its signature: the AES-CMAC, under a key that the host hands in, of the SHA-256 of the block that
- * teplovist_signing_block builds. teplovist_open_signed checks it and teplovist_commit_signed stores it with the header; every other call
- * neither reads nor changes it, so that after a plain commit the host signs again. No call reads or changes the bytes from 0x10 to 0xFF.
+ * teplovist_signing_block builds. teplovist_open_signed checks it, teplovist_commit_signed and teplovist_revert_signed store it with the header;
+ * every other call but that for a blank image neither reads nor changes it, so that after a plain commit the host signs again. No call but that
+ * for a blank image reads or changes the bytes from 0x10 to 0xFF.
  *
  * A pointer and a length lend that many bytes for the call. Both are taken as they are, so they must be right: no pointer may be null, not
  * even where the length is 0 (it is not followed then); the bytes must be there, in one object, so no length is above PTRDIFF_MAX; a session
- * is 257 bytes, a key 16, a name 16, a block 284, a running digest 104 and a digest 32, a description is 80 numbers and a signer 4, aligned as a uint64_t
- * is. Of a call that breaks this nothing is promised, no refusal either. A length that is right, but too much, is refused: an image above
- * 0x4000000 bytes by 1, a buffer or data past level 4's end by 9, and a piece that makes a message too long by 22.
+ * is 513 bytes, a key 16, a name 16, a block 284, a running digest 104 and a digest 32, a description is 80 numbers and a signer 4, aligned as
+ * a uint64_t is. Of a call that breaks this nothing is promised, no refusal either. A length that is right, but too much, is refused: an image
+ * above 0x4000000 bytes by 1, a buffer or data past level 4's end by 9, and a piece that makes a message too long by 22.
  *
  * Two arguments of one call must not overlap. Any number of calls may read one image at a time; a call that changes one must be alone with it.
  */
@@ -30,7 +31,7 @@ extern "C" {
  * the number of all faults, for an accepted teplovist_signing_block the block's length, for an accepted teplovist_list_names the number of
  * names, for an accepted teplovist_find_file the file's entry number or 0 for none, for the refusal 10 the lowest block of level 4 to which
  * it applies, and else 0. The first check that fails decides; a call that is refused changes nothing, but for 17: a write's ends the
- * session, and that of a blank image leaves zeros.
+ * session and may have changed what a write changes, and that of a blank image leaves zeros.
  */
 #define TEPLOVIST_REFUSAL(answer) ((unsigned)((answer) & 0xFF))
 #define TEPLOVIST_VALUE(answer) ((uint64_t)(answer) >> 8)
@@ -47,7 +48,6 @@ enum {
     TEPLOVIST_NO_PARTITION = 8,     /* there is no such partition */
     TEPLOVIST_OUT_OF_RANGE = 9,     /* place plus length exceeds level 4's size; there is no such block */
     TEPLOVIST_UNVERIFIED = 10,      /* read and names: a touched block is not verified; write: one that it covers only in part is not */
-    TEPLOVIST_EXTERNAL_LEVEL = 12,  /* write: the partition's level 4 is external */
     TEPLOVIST_SESSION_STATE = 13,   /* the session is idle where begun is needed, or begun where idle is */
     TEPLOVIST_STALE = 14,           /* the header or the inactive table is not as the session left it */
     TEPLOVIST_SIGNER_KIND = 15,     /* the container's kind does not fit the signer's type */
@@ -56,14 +56,19 @@ enum {
     TEPLOVIST_INVALID_ENTRY = 18,   /* names: an entry number that is not in use, an entry met twice, or a folder that is too deep */
     TEPLOVIST_NO_SAVE = 19,         /* names: another kind of container, or no SAVE header whose tables lie in level 4 */
     TEPLOVIST_BLANK_SIZE = 20,      /* blank image: not 1 to 4096 blocks, or the lent image is not just as long */
+    TEPLOVIST_NOTHING_TO_REVERT = 21, /* revert: no commit is remembered, the header is not the one after it, or the one before does not open */
     TEPLOVIST_DIGEST_TOO_LONG = 22  /* a running digest was fed, or would be, more than 2^61 - 1 bytes */
 };
 
 /*
- * A session is 257 bytes that the caller keeps: the first is 0 for idle and anything else for begun, then comes the header that a begun
- * session remembers. All zero is an idle session, to start with.
+ * A session is 513 bytes that the caller keeps: the first is 0 for idle and anything else for begun, then come two headers of 256 bytes each. A
+ * begun session has the header that it began on, and zeros. An idle one has the headers before and after the last commit in it, which
+ * teplovist_revert goes by. All zero is an idle session that remembers nothing, to start with.
+ *
+ * A host that kept the 257 bytes of a session from before there was teplovist_revert copies them and fills the other 256 with zeros: a begun
+ * session goes on, and all zero is still an idle one.
  */
-#define TEPLOVIST_SESSION_SIZE 257
+#define TEPLOVIST_SESSION_SIZE 513
 
 /*
  * A description is 80 numbers: 8 for the header, from 0 on, and 36 for each partition, A's from 8 on and B's from 44 on. A partition's
@@ -206,21 +211,29 @@ typedef struct {
  */
 uint64_t teplovist_faults(const uint8_t *image, size_t image_length, teplovist_fault *row, size_t row_length);
 
-/* Starts a session: stages a copy of the committed view, and remembers the header. Refusals: 13 if begun. */
+/*
+ * Starts a session: stages a copy of the committed view, and remembers the header. The last commit is then forgotten: it can be reverted no
+ * more. Refusals: 13 if begun.
+ */
 uint64_t teplovist_begin(uint8_t *image, size_t image_length, uint8_t *session);
 
 /*
  * Writes data to a partition's staged level 4 from a place on and brings its hashes up to date. A hash block above it that is not verified is
- * rebuilt: every entry is zero but those above what was written, so that no other block starts to be verified. The committed view does not
- * change. Refusals: 13, 14, 8, 12, 9, 10, and last 17. With 17 the session is idle, all its bytes zero, and staged bytes may have changed;
- * with any other answer the session's bytes stay.
+ * rebuilt: every entry is zero but those above what was written, so that no other block starts to be verified. The committed view of an
+ * internal level 4 does not change.
+ *
+ * BEWARE: an external level 4 (TEPLOVIST_EXTERNAL) is written IN PLACE: the committed view's touched blocks may fail to verify until the commit,
+ * and abandoning brings nothing back, nor does 17, a crash before the commit, or a revert after it.
+ *
+ * Refusals: 13, 14, 8, 9, 10, and last 17. With 17 the session is idle, all its bytes zero, and staged bytes, or those in place, may have
+ * changed; with any other answer the session's bytes stay.
  */
 uint64_t teplovist_write(uint8_t *image, size_t image_length, uint8_t *session, uint64_t partition, uint64_t place,
                          const uint8_t *data, size_t data_length);
 
 /*
- * Makes the staged view the committed one, by a store of the header alone; the session is idle. The image's AES-CMAC no longer fits: sign
- * again. Refusals: 13, 14.
+ * Makes the staged view the committed one, by a store of the header alone; the session is idle, and remembers the headers before and after for
+ * teplovist_revert. The image's AES-CMAC no longer fits: sign again. Refusals: 13, 14.
  */
 uint64_t teplovist_commit(uint8_t *image, size_t image_length, uint8_t *session);
 
@@ -232,7 +245,24 @@ uint64_t teplovist_commit(uint8_t *image, size_t image_length, uint8_t *session)
 uint64_t teplovist_commit_signed(uint8_t *image, size_t image_length, uint8_t *session, const uint8_t *key,
                                  const uint64_t *signer);
 
-/* Ends a session without a look at the image: what it staged is forgotten. Refusals: 13. */
+/*
+ * One step back: restores the header before the last commit in this session, plain or signed, by a store of the header alone; the session then
+ * remembers nothing. If no begin was accepted on the image since, nor anything else changed it, it is as it was right before that commit, byte
+ * for byte, but for a signature that the commit stored: that stays, and fits no more. Refusals: 13 if begun, 21.
+ */
+uint64_t teplovist_revert(uint8_t *image, size_t image_length, uint8_t *session);
+
+/*
+ * The same with a signature: stores the signature of the restored header, under a key by a signer, together with that header, as
+ * teplovist_commit_signed does, so that teplovist_open_signed accepts the image. Refusals: 13 if begun, 21, 15.
+ */
+uint64_t teplovist_revert_signed(uint8_t *image, size_t image_length, uint8_t *session, const uint8_t *key,
+                                 const uint64_t *signer);
+
+/*
+ * Ends a session without a look at the image: what it staged is forgotten, and it remembers no commit. What was written to an external level 4
+ * stays written. Refusals: 13.
+ */
 uint64_t teplovist_abandon(uint8_t *session);
 
 /*

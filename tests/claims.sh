@@ -41,4 +41,4 @@ reports "$pages/missing.md" "no page $pages/missing.md"
 printf 'A sentence that cites nothing.\n' > "$pages/page.md"
 reports "$pages/page.md" 'claims: 0 citations, 0 wrong'
 
-python3 tests/claims.py docs/CLAIMS.md docs/TRUST.md
+python3 tests/claims.py docs/CLAIMS.md docs/TRUST.md docs/THEOREM.md

@@ -29,7 +29,7 @@ diff "$folder/declared" "$folder/exported"
 
 # A header with another number must be found.
 for moved in TEPLOVIST_PRIMARY_OFFSET=6 TEPLOVIST_B=43 TEPLOVIST_SELECTOR=10 TEPLOVIST_IVFC_LEVEL1_LOG=18 TEPLOVIST_DPFS_LEVEL3_LOG=29 \
-    TEPLOVIST_SIGNER_KIND=14 TEPLOVIST_SIGNATURE=17 TEPLOVIST_BLANK_SIZE=19 TEPLOVIST_DIGEST_TOO_LONG=21; do
+    TEPLOVIST_SIGNER_KIND=14 TEPLOVIST_SIGNATURE=17 TEPLOVIST_NO_SAVE=18 TEPLOVIST_BLANK_SIZE=19 TEPLOVIST_NOTHING_TO_REVERT=20 TEPLOVIST_DIGEST_TOO_LONG=21; do
     sed -E "s/^( *${moved%=*} = )[0-9]+/\\1${moved#*=}/" include/teplovist.h >"$folder/teplovist.h"
     program "$folder" "$folder/moved"
     if cmp -s include/teplovist.h "$folder/teplovist.h" || { "$folder/moved" "${samples[@]}" && "$folder/moved-blank"; } >"$folder/said"; then
@@ -37,4 +37,4 @@ for moved in TEPLOVIST_PRIMARY_OFFSET=6 TEPLOVIST_B=43 TEPLOVIST_SELECTOR=10 TEP
         exit 1
     fi
 done
-echo 'header: each of 9 other numbers was found'
+echo 'header: each of 11 other numbers was found'

@@ -1,7 +1,7 @@
 #!/usr/bin/env bash
 # Every single store that the proved library makes to an image while it runs, as valgrind's lackey writes it down, on random images: begin and write
-# store to no protected byte, not even to put it back, a commit stores each byte of its header once and nothing else, a signed commit each byte of
-# its signature too, and no other call stores.
+# store to no protected byte, not even to put it back, but for a write's own range of an external level 4; a commit or a revert stores each byte of
+# its header once and nothing else, a signed one each byte of its signature too, and no other call stores.
 # The protected bytes come from the independent implementation in tests/outside.
 set -euo pipefail
 cd "$(dirname "$0")/.."

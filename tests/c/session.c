@@ -1,8 +1,8 @@
 /*
  * session IMAGE..: for each image compares every number of its description with the image's own bytes, read at the offsets that the paper
- * prints, looks at each block that is signed, and runs whole sessions on it, plain and signed. It knows the library by include/teplovist.h alone. Prints what
- * differs and ends with 1, or says how much it compared. No two names of the description may have the same numbers in all images: they could
- * be exchanged unseen.
+ * prints, looks at each block that is signed, and runs whole sessions on it, plain and signed, with steps back. It knows the library by
+ * include/teplovist.h alone. Prints what differs and ends with 1, or says how much it compared. No two names of the description may have the same
+ * numbers in all images: they could be exchanged unseen.
  */
 #include <stdio.h>
 #include <stdlib.h>
@@ -71,7 +71,7 @@ static void expect_number(const char *name, size_t index, uint64_t wanted) {
 }
 
 /* What was expected under each name, in the order of the images, to tell whether two names could be exchanged unseen. */
-#define MOST_SEEN 32
+#define MOST_SEEN 128
 struct names {
     size_t count;
     struct {
@@ -202,14 +202,16 @@ static void *allocated(size_t length) {
 /* A call whose whole answer is a refusal's number, or 0. */
 #define ANSWERS(number, call) expect(#call, number, call)
 
-/* A partition's level 4. */
+/* A partition's level 4, and where it stands in the image if it is external. */
 struct level4 {
-    uint64_t partition, external, size, log;
+    uint64_t partition, external, outside, size, log;
 };
 
 static struct level4 level4_of(uint64_t partition) {
     const uint64_t *numbers = description + (partition == 0 ? TEPLOVIST_A : TEPLOVIST_B);
-    struct level4 level = {partition, numbers[TEPLOVIST_EXTERNAL], numbers[TEPLOVIST_IVFC_LEVEL4_SIZE], numbers[TEPLOVIST_IVFC_LEVEL4_LOG]};
+    struct level4 level = {partition, numbers[TEPLOVIST_EXTERNAL],
+                           numbers[TEPLOVIST_PARTITION_OFFSET] + numbers[TEPLOVIST_EXTERNAL_OFFSET],
+                           numbers[TEPLOVIST_IVFC_LEVEL4_SIZE], numbers[TEPLOVIST_IVFC_LEVEL4_LOG]};
     return level;
 }
 
@@ -324,51 +326,102 @@ static void expect_limits(const uint8_t *image, size_t length, struct level4 lev
 
 /* ---- sessions */
 
-/* A session on one block: what it held, what is written to it, and a buffer to read it back. */
+/* A session on one block: what it held, what is written to it, and a buffer to read it back. Of an external level 4, where it stands. */
 struct trial {
     uint8_t *image;
     size_t length, n;
-    uint64_t partition, place;
+    uint64_t partition, place, block, external, outside;
     uint8_t *old, *data, *got;
     uint8_t session[TEPLOVIST_SESSION_SIZE];
 };
 
 static const uint8_t idle[TEPLOVIST_SESSION_SIZE];
+static const uint8_t any_key[TEPLOVIST_KEY_SIZE];
 
-static void expect_read(const struct trial *t, const char *what, const uint8_t *wanted) {
-    ANSWERS(TEPLOVIST_ACCEPTED, teplovist_read_committed(t->image, t->length, t->partition, t->place, t->got, t->n));
+/* The committed bytes; where an external level 4 was written in place and not committed its block is not verified. */
+static void expect_read(const struct trial *t, const char *what, const uint8_t *wanted, int in_place) {
+    uint64_t answer = teplovist_read_committed(t->image, t->length, t->partition, t->place, t->got, t->n);
+    if (t->external && in_place) {
+        expect(what, TEPLOVIST_UNVERIFIED | t->block << 8, answer);
+        return;
+    }
+    expect("read_committed", TEPLOVIST_ACCEPTED, answer);
     expect_bytes(what, wanted, t->got, t->n);
+}
+
+/* An idle session that remembers two headers. */
+static void expect_remembered(const uint8_t *session, const uint8_t *former, const uint8_t *later) {
+    expect("the session after a commit", 0, session[0]);
+    expect_bytes("the header before the commit", former, session + 1, 256);
+    expect_bytes("the header after the commit", later, session + 257, 256);
+}
+
+/* Neither form of a step back is accepted, and nothing changes. */
+static void expect_no_revert(uint8_t *image, size_t length, uint8_t *session, uint64_t refusal) {
+    uint64_t signer[TEPLOVIST_SIGNER_LENGTH] = {TEPLOVIST_CARD, 0, 0, 0};
+    uint8_t *before = allocated(length), kept[TEPLOVIST_SESSION_SIZE];
+    memcpy(before, image, length);
+    memcpy(kept, session, sizeof kept);
+    ANSWERS(refusal, teplovist_revert(image, length, session));
+    ANSWERS(refusal, teplovist_revert_signed(image, length, session, any_key, signer));
+    expect_bytes("the image after a revert that is refused", before, image, length);
+    expect_bytes("the session after a revert that is refused", kept, session, sizeof kept);
+    free(before);
 }
 
 static void expect_begin(struct trial *t) {
     ANSWERS(TEPLOVIST_SESSION_STATE, teplovist_commit(t->image, t->length, t->session));
     ANSWERS(TEPLOVIST_SESSION_STATE, teplovist_abandon(t->session));
+    expect_no_revert(t->image, t->length, t->session, TEPLOVIST_NOTHING_TO_REVERT);
     ANSWERS(TEPLOVIST_ACCEPTED, teplovist_begin(t->image, t->length, t->session));
     expect("the session is begun", 1, t->session[0]);
     expect_bytes("the session's header", t->image + 0x100, t->session + 1, 256);
+    expect_bytes("the rest of a begun session", idle, t->session + 257, 256);
     ANSWERS(TEPLOVIST_SESSION_STATE, teplovist_begin(t->image, t->length, t->session));
+    expect_no_revert(t->image, t->length, t->session, TEPLOVIST_SESSION_STATE);
 }
 
 static void expect_write(struct trial *t, uint64_t size) {
     ANSWERS(TEPLOVIST_ACCEPTED, teplovist_write(t->image, t->length, t->session, t->partition, t->place, t->data, t->n));
     ANSWERS(TEPLOVIST_ACCEPTED, teplovist_read_staged(t->image, t->length, t->session, t->partition, t->place, t->got, t->n));
     expect_bytes("the staged bytes", t->data, t->got, t->n);
-    expect_read(t, "the committed bytes before the commit", t->old);
+    if (t->external)
+        expect_bytes("the bytes in place", t->data, t->image + t->outside + t->place, t->n);
+    expect_read(t, "the committed bytes before the commit", t->old, 1);
     ANSWERS(TEPLOVIST_OUT_OF_RANGE, teplovist_write(t->image, t->length, t->session, t->partition, size, t->data, 1));
     ANSWERS(TEPLOVIST_NO_PARTITION, teplovist_write(t->image, t->length, t->session, 2, 0, t->data, 1));
 }
 
 static void expect_commit(struct trial *t) {
     uint64_t flag = header_of(t->image).flag;
-    uint8_t other[TEPLOVIST_SESSION_SIZE];
+    uint8_t other[TEPLOVIST_SESSION_SIZE], former[256];
     memcpy(other, t->session, sizeof other);
-    other[sizeof other - 1] ^= 1;
+    memcpy(former, t->image + 0x100, sizeof former);
+    other[256] ^= 1;
     ANSWERS(TEPLOVIST_STALE, teplovist_commit(t->image, t->length, other));
     ANSWERS(TEPLOVIST_ACCEPTED, teplovist_commit(t->image, t->length, t->session));
-    expect_bytes("the session after a commit", idle, t->session, sizeof idle);
+    expect_remembered(t->session, former, t->image + 0x100);
     expect("the flag after a commit", 1 - flag, header_of(t->image).flag);
-    expect_read(t, "the committed bytes after the commit", t->data);
+    expect_read(t, "the committed bytes after the commit", t->data, 0);
     ANSWERS(TEPLOVIST_SESSION_STATE, teplovist_read_staged(t->image, t->length, t->session, t->partition, t->place, t->got, t->n));
+}
+
+/* A plain commit and a plain revert: the image is the one before, byte for byte. Where another session began since, there is nothing to revert. */
+static void expect_revert(struct trial *t) {
+    uint8_t *before = allocated(t->length), *after = allocated(t->length), other[TEPLOVIST_SESSION_SIZE] = {0};
+    memcpy(before, t->image, t->length);
+    expect_commit(t);
+    memcpy(after, t->image, t->length);
+    ANSWERS(TEPLOVIST_ACCEPTED, teplovist_begin(t->image, t->length, other));
+    expect_no_revert(t->image, t->length, t->session, TEPLOVIST_NOTHING_TO_REVERT);
+    memcpy(t->image, after, t->length);
+    ANSWERS(TEPLOVIST_ACCEPTED, teplovist_revert(t->image, t->length, t->session));
+    expect_bytes("the image after a revert", before, t->image, t->length);
+    expect_bytes("the session after a revert", idle, t->session, sizeof idle);
+    expect_read(t, "the committed bytes after a revert", t->old, 1);
+    expect_no_revert(t->image, t->length, t->session, TEPLOVIST_NOTHING_TO_REVERT);
+    free(before);
+    free(after);
 }
 
 static void expect_abandon(struct trial *t) {
@@ -379,10 +432,11 @@ static void expect_abandon(struct trial *t) {
     ANSWERS(TEPLOVIST_ACCEPTED, teplovist_abandon(t->session));
     expect_bytes("the session after an abandon", idle, t->session, sizeof idle);
     expect_bytes("the header after an abandon", front, t->image, sizeof front);
-    expect_read(t, "the committed bytes after an abandon", t->data);
+    expect_read(t, "the committed bytes after an abandon", t->data, 1);
+    expect_no_revert(t->image, t->length, t->session, TEPLOVIST_NOTHING_TO_REVERT);
 }
 
-/* Writes the first verified block of a partition, commits it, and abandons another write. */
+/* Writes the first verified block of a partition, commits it and reverts that, commits it again, and abandons another write. */
 static void expect_session(uint8_t *image, size_t length, struct level4 level) {
     struct trial t = {0};
     uint64_t block = (uint64_t)1 << level.log;
@@ -390,7 +444,10 @@ static void expect_session(uint8_t *image, size_t length, struct level4 level) {
     t.image = image;
     t.length = length;
     t.partition = level.partition;
-    t.place = first_block(image, length, level, 1) * block;
+    t.block = first_block(image, length, level, 1);
+    t.place = t.block * block;
+    t.external = level.external;
+    t.outside = level.outside;
     expect("a verified block is there", 1, t.place < level.size);
     t.n = level.size - t.place < block ? level.size - t.place : block;
     t.old = allocated(t.n);
@@ -401,19 +458,14 @@ static void expect_session(uint8_t *image, size_t length, struct level4 level) {
         t.data[i] = (uint8_t)(t.old[i] + 1 + i % 5);
     expect_begin(&t);
     expect_write(&t, level.size);
+    expect_revert(&t);
+    expect_begin(&t);
+    expect_write(&t, level.size);
     expect_commit(&t);
     expect_abandon(&t);
     free(t.old);
     free(t.data);
     free(t.got);
-}
-
-/* A partition whose level 4 is external is not written. */
-static void expect_no_write(uint8_t *image, size_t length, struct level4 level) {
-    uint8_t session[TEPLOVIST_SESSION_SIZE] = {0}, byte = 0;
-    ANSWERS(TEPLOVIST_ACCEPTED, teplovist_begin(image, length, session));
-    ANSWERS(TEPLOVIST_EXTERNAL_LEVEL, teplovist_write(image, length, session, level.partition, 0, &byte, 1));
-    ANSWERS(TEPLOVIST_ACCEPTED, teplovist_commit(image, length, session));
 }
 
 /* Refusals of opening and 8, which leave description and buffer alone. */
@@ -538,10 +590,35 @@ static uint64_t open_signed(const uint8_t *image, size_t length, const uint8_t *
     return answer;
 }
 
+/* What a signed commit on `before` left is reverted, in a copy: signed, so that it opens under the key, and plainly, so that its signature stays. */
+static void expect_signed_back(const uint8_t *before, const uint8_t *image, size_t length, const uint8_t *remembered, const uint8_t *key,
+                               const uint64_t *signer) {
+    uint64_t foreign[TEPLOVIST_SIGNER_LENGTH] = {(signer[0] + 3) % 6, 0, 0, 0};
+    uint8_t session[TEPLOVIST_SESSION_SIZE], *back = allocated(length);
+    memcpy(back, image, length);
+    memcpy(session, remembered, sizeof session);
+    ANSWERS(TEPLOVIST_SIGNER_KIND, teplovist_revert_signed(back, length, session, key, foreign));
+    expect_bytes("the image after a signed revert that is refused", image, back, length);
+    ANSWERS(TEPLOVIST_ACCEPTED, teplovist_revert_signed(back, length, session, key, signer));
+    expect_bytes("the image after a signed revert", before + 0x10, back + 0x10, length - 0x10);
+    expect_bytes("the session after a signed revert", idle, session, sizeof idle);
+    ANSWERS(TEPLOVIST_NOTHING_TO_REVERT, teplovist_revert_signed(back, length, session, key, foreign));
+    expect_description(back, length);
+    ANSWERS(TEPLOVIST_ACCEPTED, open_signed(back, length, key, signer));
+    memcpy(back, image, length);
+    memcpy(session, remembered, sizeof session);
+    ANSWERS(TEPLOVIST_ACCEPTED, teplovist_revert(back, length, session));
+    expect_bytes("the signature after a plain revert", image, back, 0x10);
+    expect_bytes("the image after a plain revert", before + 0x10, back + 0x10, length - 0x10);
+    ANSWERS(TEPLOVIST_SIGNATURE, open_signed(back, length, key, signer));
+    free(back);
+    expect_description(image, length);
+}
+
 /* A signer of the container's kind signs a commit; the image then opens under its key, and under no other. */
 static void expect_signed(uint8_t *image, size_t length, uint64_t number) {
     uint64_t signer[TEPLOVIST_SIGNER_LENGTH] = {number, 0x0123456789ABCDEF, 1, 2}, other[TEPLOVIST_SIGNER_LENGTH] = {number, 1, 3, 4};
-    uint8_t session[TEPLOVIST_SESSION_SIZE] = {0}, key[TEPLOVIST_KEY_SIZE] = {1, 2, 3}, between[0xF0];
+    uint8_t session[TEPLOVIST_SESSION_SIZE] = {0}, key[TEPLOVIST_KEY_SIZE] = {1, 2, 3}, between[0xF0], *before;
     if (types[number].kind != header_of(image).kind) {
         ANSWERS(TEPLOVIST_SIGNER_KIND, open_signed(image, length, key, signer));
         ANSWERS(TEPLOVIST_ACCEPTED, teplovist_begin(image, length, session));
@@ -553,11 +630,16 @@ static void expect_signed(uint8_t *image, size_t length, uint64_t number) {
     ANSWERS(TEPLOVIST_SIGNATURE, open_signed(image, length, key, signer));
     ANSWERS(TEPLOVIST_SESSION_STATE, teplovist_commit_signed(image, length, session, key, signer));
     ANSWERS(TEPLOVIST_ACCEPTED, teplovist_begin(image, length, session));
+    ANSWERS(TEPLOVIST_SESSION_STATE, teplovist_revert_signed(image, length, session, key, signer));
+    before = allocated(length);
+    memcpy(before, image, length);
     ANSWERS(TEPLOVIST_ACCEPTED, teplovist_commit_signed(image, length, session, key, signer));
-    expect_bytes("the session after a signed commit", idle, session, sizeof idle);
+    expect_remembered(session, before + 0x100, image + 0x100);
     expect_bytes("the bytes behind the signature", between, image + 0x10, sizeof between);
     expect_description(image, length);
     ANSWERS(TEPLOVIST_ACCEPTED, open_signed(image, length, key, signer));
+    expect_signed_back(before, image, length, session, key, signer);
+    free(before);
     if (number != TEPLOVIST_CARD)
         ANSWERS(TEPLOVIST_SIGNATURE, open_signed(image, length, key, other));
     key[15] ^= 1;
@@ -567,12 +649,24 @@ static void expect_signed(uint8_t *image, size_t length, uint64_t number) {
     ANSWERS(TEPLOVIST_SIGNATURE, open_signed(image, length, key, signer));
 }
 
+/* No sample is a save: a listing and a search are refused, and the row stays as it was. */
+static void expect_no_save(const uint8_t *image, size_t length) {
+    uint8_t row[2 * TEPLOVIST_NAME_RECORD], before[2 * TEPLOVIST_NAME_RECORD], name[TEPLOVIST_NAME_SIZE];
+    memset(row, 0x55, sizeof row);
+    memset(before, 0x55, sizeof before);
+    memset(name, 'a', sizeof name);
+    ANSWERS(TEPLOVIST_NO_SAVE, teplovist_list_names(image, length, row, sizeof row));
+    expect_bytes("the row of a refused listing", before, row, sizeof row);
+    ANSWERS(TEPLOVIST_NO_SAVE, teplovist_find_file(image, length, 1, name));
+}
+
 static void run(uint8_t *image, size_t length) {
     uint64_t q;
     expect_description(image, length);
     if (wrong != 0)
         return; /* the numbers are not to be relied on */
     expect_refusals(image, length);
+    expect_no_save(image, length);
     for (q = 0; q < sizeof types / sizeof *types; q++)
         expect_signing(image, length, q);
     for (q = 0; q < description[TEPLOVIST_PARTITIONS]; q++) {
@@ -581,10 +675,7 @@ static void run(uint8_t *image, size_t length) {
         expect_faults(image, length, level);
         expect_damage(image, length, level);
         expect_limits(image, length, level);
-        if (level.external)
-            expect_no_write(image, length, level);
-        else
-            expect_session(image, length, level);
+        expect_session(image, length, level);
         expect_committed(image, length, level);
         expect_description(image, length);
     }

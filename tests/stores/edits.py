@@ -8,6 +8,9 @@ SESSIONS = 'container/src/sessions.rt'
 RUNS = 'number/src/runs.rt'
 GATEWAY = 'gateway/src/lib.rt'
 MAKING = 'blank/src/making.rt'
+UPDATE = 'update/src/lib.rt'
+CLEARING = 'update/src/clearing.rt'
+WRITING = 'steps/src/writing.rt'
 
 
 def lines(*texts):
@@ -28,6 +31,10 @@ SWITCHED = lines('switch_tables(image, c);')
 HEADER_STORED = lines('store_header(image, next);')
 SIGNATURE_STORED = lines('copy_into(image, 0, &signature);')
 SIGNED = lines('switch_signed(image, c, key, signer);')
+JUDGED = lines('if !is_revertible(image, former, later) {', '    return refused(session, Refusal::NothingToRevert);', '}')
+RESTORED = lines('restore(image, former);')
+SIGNED_BACK = lines('restore_signed(image, former, key, signer);')
+PUT = lines('put_level(space, view, image, 4, x, values);')
 NEW = '// A session that remembers nothing.\n'
 STAGE_IMAGE = "// And each partition's other half"
 SECOND_TREE = lines('if c.header.count == 2 {', '    begin_tree(space, space.b, image);', '}')
@@ -166,6 +173,83 @@ OTHER_COMMITS = [
         BEGUN, 'switch_tables(image, c);', 'switch_tables(image, c);')]}),
 ]
 
+STORE_OUTSIDE_IS_PUBLIC = {UPDATE: [('fn store_outside(', 'pub fn store_outside(')]}
+ONE_BYTE_OUTSIDE = ['let view = views::places::staged_view(c, 0);', 'let at = view.outside;', 'update::store_outside(view, image, 0, 1, at, 0);']
+NOT_AS_THEY_ARE = 'does not hand on its partition, place and bytes as they are'
+
+OTHER_PLACES = [
+    ('a write in place one byte past the range', 'update::put_outside: is not, statement by statement', {
+        UPDATE: [('view.outside + x + i as u64, value', 'view.outside + x + 1 + i as u64, value')]}),
+    ('a second store in place', 'update::store_outside: is not, statement by statement', {
+        UPDATE: [after(lines('image[at] = value;'), 'image[at] = value;')]}),
+    ('a store in place by begin', 'begin: the image is stored to by update::store_outside', {
+        **STORE_OUTSIDE_IS_PUBLIC, **in_begin(*ONE_BYTE_OUTSIDE)}),
+    ('a store in place by commit', 'commit reaches update::store_outside', {
+        **STORE_OUTSIDE_IS_PUBLIC, SESSIONS: [before(SWITCHED, *ONE_BYTE_OUTSIDE)]}),
+    ('a store in place by another function of a write', 'write: update::store_outside is called by', {
+        **STORE_OUTSIDE_IS_PUBLIC, SESSIONS: [before(lines('write_partition(image, session, c, partition, place, bytes)'), *ONE_BYTE_OUTSIDE)]}),
+    ('a weaker demand on a place in place', 'update/src/lib.rt: does not have', {
+        UPDATE: [('(InPlace view x n i) × (i < length (now image))', '(i < length (now image))')]}),
+    ('another rule of what is in place', 'update/src/lib.rt: has InPlace from', {
+        UPDATE: [('ghost use Rattle.update.specs.Rules.{StagedRules, WriteRules, EndsRules, InPlace};',
+                  'ghost use Rattle.update.specs.Rules.{StagedRules, WriteRules, EndsRules};\n'
+                  'ghost use Rattle.update.specs.Staged.{InPlace};')]}),
+    ('bytes put twice, first elsewhere', 'write: update::put_level is called by', {
+        UPDATE: [before(PUT, 'put_level(space, view, image, 4, 0, values);')]}),
+    ('bytes put elsewhere', f'write: update::write_blocks {NOT_AS_THEY_ARE}', {
+        UPDATE: [(PUT, lines('put_level(space, view, image, 4, 0, values);'))]}),
+    ('a part of the bytes', f'write: update::write_blocks {NOT_AS_THEY_ARE}', {
+        UPDATE: [(PUT, lines('put_level(space, view, image, 4, x, &values[..1]);'))]}),
+    ('bytes put into another level', 'write: update::write_blocks puts its bytes into another level than 4', {
+        UPDATE: [(PUT, lines('put_level(space, view, image, 3, x, values);'))]}),
+    ('a place that is moved on the way', f'write: container::sessions::write {NOT_AS_THEY_ARE}', {SESSIONS: [(
+        lines('write_partition(image, session, c, partition, place, bytes)'),
+        lines('let moved = place + 1;', 'write_partition(image, session, c, partition, moved, bytes)'))]}),
+    ('another partition', f'write: steps::writing::write_partition {NOT_AS_THEY_ARE}', {WRITING: [('staged_view(c, q)', 'staged_view(c, 0)')]}),
+    ('a view that is sometimes the committed one', f'write: steps::writing::write_partition {NOT_AS_THEY_ARE}', {WRITING: [(
+        'let view = staged_view(c, q);', 'let view = if place == 0 { staged_view(c, q) } else { views::places::committed_view(c, q) };')]}),
+    ('a block of level 4 that is emptied', 'write: update::clearing::clear_above puts bytes into a level that may be 4', {CLEARING: [(
+        lines('        i - 1,', '        p + front as u64,'), lines('        i,', '        p + front as u64,'))]}),
+    ('entries put into level 4', 'write: update::enter_some puts bytes into a level that may be 4', {UPDATE: [(
+        'put_level(space, view, image, i, ENTRY * b, &hashes[..size]);', 'put_level(space, view, image, i + 1, ENTRY * b, &hashes[..size]);')]}),
+    ('entries of a level 5', 'update/src/lib.rt: does not have', {UPDATE: [(
+        '(i < 4) × (b < end) × (end ≤ blocks', '(i ≤ 4) × (b < end) × (end ≤ blocks')]}),
+    ('blocks above a level 5', 'update/src/clearing.rt: does not have', {CLEARING: [(
+        '(i ≤ 4) × (first ≤ last) × (last < blocks', '(i ≤ 5) × (first ≤ last) × (last < blocks')]}),
+]
+
+TWICE_BACK = 'revert: commits::restore is to have the image from one call'
+
+OTHER_REVERTS = [
+    ('a revert that tries the former header by storing it', TWICE_BACK, {SESSIONS: [(JUDGED + RESTORED, lines(
+        'restore(image, former);', 'let tried = open(image);', 'let Opened::Valid(_d) = tried else {', '    restore(image, later);',
+        '    return refused(session, Refusal::NothingToRevert);', '};'))]}),
+    ('a revert that stores twice', TWICE_BACK, {SESSIONS: [after(RESTORED, 'restore(image, former);')]}),
+    ('a revert of two headers', 'revert: commits::store_header is to have the image from one call', {COMMITTING: [before(
+        lines('store_header(image, former);'), 'store_header(image, [0u8; 256]);')]}),
+    ('a revert that commits before', 'revert reaches commits::switch_tables', {SESSIONS: [before(RESTORED, 'switch_tables(image, _c);')]}),
+    ('a store by a revert itself', 'revert: the image is stored to by container::sessions::revert', {SESSIONS: [before(
+        RESTORED, 'let value = image[0x300];', 'image[0x300] = value;')]}),
+    ('a store by a revert, put back', 'revert: the image is stored to by dpfs::staging::store', {SESSIONS: [before(
+        RESTORED, 'let at = layout::tables::inactive_range(_c.header).offset;', 'let value = image[at as usize];',
+        'dpfs::staging::store(space_of(_c), image, at, 0);', 'dpfs::staging::store(space_of(_c), image, at, value);')]}),
+    ('a signed revert that stores twice', 'revert_signed: commits::restore_signed is to have the image from one call', {
+        SESSIONS: [after(SIGNED_BACK, 'restore_signed(image, former, key, signer);')]}),
+    ('a signed revert that stores the header before', 'revert_signed reaches commits::restore', {
+        SESSIONS: [before(SIGNED_BACK, 'restore(image, former);')]}),
+    ('a revert that signs', 'revert reaches commits::restore_signed', {SESSIONS: [before(
+        RESTORED, 'restore_signed(image, former, [0u8; 16], Signer::Card);')]}),
+    ('a commit that goes back', 'commit reaches commits::restore', {SESSIONS: [after(SWITCHED, 'restore(image, header);')]}),
+    ('a begin under another header', 'begin: steps::beginning::stage_image has a container from layout::opening::open_under', in_begin(
+        'let crafted = [0u8; 256];', 'let answer = layout::opening::open_under(image, &crafted);',
+        'let layout::Opened::Valid(other) = answer else {', '    return;', '};',
+        'store(views::places::space_of(other), image, 0, 0);')),
+    ('a revert that opens another image', 'revert: container::sessions::revert has a container from layout::opening::open_under', {
+        SESSIONS: [(JUDGED + RESTORED, lines(
+            'let under = layout::opening::open_under(image, &former);', 'let Opened::Valid(_d) = under else {',
+            '    return refused(session, Refusal::NothingToRevert);', '};') + RESTORED)]}),
+]
+
 OTHER_BLANKS = [
     ('a begin that makes a blank image', 'container::sessions::begin reaches blank::', {
         SESSIONS: [before(BEGUN, 'blank::making::make_blank(image, layout::Kind::Disa, 1);')]}),
@@ -176,7 +260,7 @@ OTHER_BLANKS = [
         lines('clear(image);', 'if fill(image, kind, n) {'), lines('clear(image);', 'image[0] = 0;', 'if fill(image, kind, n) {'))]}),
 ]
 
-EDITS = OTHER_STORES + OTHER_SPACES + OTHER_COMMITS + OTHER_BLANKS
+EDITS = OTHER_STORES + OTHER_SPACES + OTHER_PLACES + OTHER_COMMITS + OTHER_REVERTS + OTHER_BLANKS
 
 # Forms of MIR, and what is put for the first of each: nothing that the compiler writes today, or what could hide a store.
 FORMS = [

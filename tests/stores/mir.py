@@ -284,7 +284,8 @@ class Call:
             raise Unknown(f'a call: {term[1]}')
         self.callee, self.arguments = term[1][1][1], [operand(one) for one in items(term[2])]
         self.target, self.in_loop = Place(term[3]), in_loop
-        self.text = f'{self.target} = {self.callee}({", ".join(map(show_operand, items(term[2])))})'
+        self.shown = [show_operand(one) for one in items(term[2])]
+        self.text = f'{self.target} = {self.callee}({", ".join(self.shown)})'
 
     def __str__(self):
         return self.text

@@ -1,19 +1,17 @@
 -- Stores one after another make the table, the header and the image. Assumes nothing.
 use Prim.Native.Nat.{ℕ, zero, suc, _+_, _-_, _*_, _≤_, _<_}
-use mathlib.Core.Bool.{Bool, true, false, _||_}
+use mathlib.Core.Bool.{Bool, _||_}
 use mathlib.Core.Path.{_≡_, refl, sym, ap, ap₂, _∙_}
 use mathlib.Core.List.{List, [], _∷_, _++_}
-use mathlib.Core.Logic.{inl, inr}
 use native.Mathlib.Omega.{arith}
 use native.Mathlib.Nat.{add-zero, zero-add}
-use lib.ListN.{length, getD, take, drop, replicate, length-append, length-replicate}
+use lib.ListN.{length, getD, length-append, length-replicate}
 use lib.Seq.{sets, length-sets}
 use Rattle.number.specs.declared.Level.{Level}
 use Rattle.number.specs.Blocks.{blockSize, blocks, blockLength}
-use Rattle.number.proofs.ListLaws.{sets-append, sets-in, sets-out}
+use Rattle.number.proofs.ListLaws.{sets-append, sets-in}
 use Rattle.number.proofs.BlockLaws.{exists-byte, block-inside}
 use Rattle.sha256.specs.Sha256.{sha256}
-use Rattle.sha256.proofs.Laws.{length-sha256}
 use Rattle.layout.specs.declared.Kind.{Kind}
 use Rattle.layout.specs.declared.Kind.the-variants.{Disa, Diff}
 use Rattle.layout.specs.Magic.{disaMagic, diffMagic, difiMagic, ivfcMagic, dpfsMagic}
@@ -21,10 +19,11 @@ use Rattle.ivfc.specs.Blocks.{block}
 use Rattle.ivfc.specs.Verified.{zeroEntry}
 use Rattle.ivfc.specs.Rows.{digests}
 use Rattle.ivfc.proofs.EntryLaws.{block-cong}
-use Rattle.blank.specs.Sizes.{h1, h2, h3, ivfc1, ivfc2, ivfc3, ivfc4, place4, size1, size2, size3, place2, place3, partitionSize, imageSize}
+use Rattle.blank.specs.Rules.{bytesFrom}
+use Rattle.blank.specs.Sizes.{h1, h2, h3, ivfc2, ivfc3, ivfc4, place4, size1, size2, size3, place2, place3, partitionSize, imageSize}
 use Rattle.signing.specs.Blocks.{fieldBytes}
 use Rattle.blank.specs.Fields.{eights, levelFields}
-use Rattle.blank.specs.Image.{zeros, byte1, byte2, byte3, byte4, headerWith, hashes1, hashes2, hashes3, master, difi, ivfc, dpfs, pieces, disaFields, diffFields, halfPlace, hashed}
+use Rattle.blank.specs.Image.{zeros, byte2, byte3, byte4, headerWith, hashes1, hashes2, hashes3, difi, ivfc, dpfs, pieces, disaFields, diffFields, halfPlace, hashed}
 use Rattle.blank.specs.Making.{someZero, zeroHashes}
 use Rattle.blank.proofs.SizeLaws.{Sized}
 use Rattle.blank.proofs.ImageLaws as im
@@ -171,8 +170,8 @@ module _ (n : ℕ) (w : Sized n) where
 
   -- each level is what the definition says, whatever list stands below it
   module _ (s t u v : List ℕ) (ps : s ≡ zeros (imageSize n)) (pt : t ≡ sets s (halfPlace n + (h1 n + h2 n)) (hashes3 n))
-      (pu : u ≡ sets t (halfPlace n + h1 n) (digests (ivfc3 n) (λ (y : ℕ). getD t (halfPlace n + (h1 n + h2 n) + y) 0) 0 (blocks (ivfc3 n))))
-      (pv : v ≡ sets u (halfPlace n) (digests (ivfc2 n) (λ (y : ℕ). getD u (halfPlace n + h1 n + y) 0) 0 (blocks (ivfc2 n)))) where
+      (pu : u ≡ sets t (halfPlace n + h1 n) (digests (ivfc3 n) (bytesFrom t (halfPlace n + (h1 n + h2 n))) 0 (blocks (ivfc3 n))))
+      (pv : v ≡ sets u (halfPlace n) (digests (ivfc2 n) (bytesFrom u (halfPlace n + h1 n)) 0 (blocks (ivfc2 n)))) where
     length-s : length s ≡ imageSize n
     length-s = ap length ps ∙ length-replicate (imageSize n) 0
 
@@ -204,8 +203,8 @@ module _ (n : ℕ) (w : Sized n) where
         (u-is ∙ ap (λ (l : List ℕ). sets l (halfPlace n + h1 n) (hashes2 n)) (pt ∙ ap (λ (l : List ℕ). sets l (halfPlace n + (h1 n + h2 n)) (hashes3 n)) ps))
 
     pub above-made : (p q r : Bool) → p ≡ someZero (ivfc4 n) byte4 (blocks (ivfc4 n))
-        → q ≡ someZero (ivfc3 n) (λ (y : ℕ). getD t (halfPlace n + (h1 n + h2 n) + y) 0) (blocks (ivfc3 n))
-        → r ≡ someZero (ivfc2 n) (λ (y : ℕ). getD u (halfPlace n + h1 n + y) 0) (blocks (ivfc2 n)) → p || q || r ≡ zeroHashes n
+        → q ≡ someZero (ivfc3 n) (bytesFrom t (halfPlace n + (h1 n + h2 n))) (blocks (ivfc3 n))
+        → r ≡ someZero (ivfc2 n) (bytesFrom u (halfPlace n + h1 n)) (blocks (ivfc2 n)) → p || q || r ≡ zeroHashes n
     unfolding zeroHashes
     above-made p q r a b c =
         ap₂ (λ (x y : Bool). x || y)
@@ -215,17 +214,17 @@ module _ (n : ℕ) (w : Sized n) where
   -- the same with the code's numbers
   pub enter-made : (half a b c : ℕ) → half ≡ halfPlace n → a ≡ h1 n → b ≡ h2 n → c ≡ h3 n → (s t u v : List ℕ) (p q r : Bool)
       → s ≡ zeros (imageSize n) → t ≡ sets s (half + (a + b)) (hashes3 n)
-      → u ≡ sets t (half + a) (digests (record { offset = a + b; size = c; log = 12 }) (λ (y : ℕ). getD t (half + (a + b) + y) 0) 0 (blocks (record { offset = a + b; size = c; log = 12 })))
-      → v ≡ sets u half (digests (record { offset = a; size = b; log = 9 }) (λ (y : ℕ). getD u (half + a + y) 0) 0 (blocks (record { offset = a; size = b; log = 9 })))
+      → u ≡ sets t (half + a) (digests (record { offset = a + b; size = c; log = 12 }) (bytesFrom t (half + (a + b))) 0 (blocks (record { offset = a + b; size = c; log = 12 })))
+      → v ≡ sets u half (digests (record { offset = a; size = b; log = 9 }) (bytesFrom u (half + a)) 0 (blocks (record { offset = a; size = b; log = 9 })))
       → p ≡ someZero (ivfc4 n) byte4 (blocks (ivfc4 n))
-      → q ≡ someZero (record { offset = a + b; size = c; log = 12 }) (λ (y : ℕ). getD t (half + (a + b) + y) 0) (blocks (record { offset = a + b; size = c; log = 12 }))
-      → r ≡ someZero (record { offset = a; size = b; log = 9 }) (λ (y : ℕ). getD u (half + a + y) 0) (blocks (record { offset = a; size = b; log = 9 }))
+      → q ≡ someZero (record { offset = a + b; size = c; log = 12 }) (bytesFrom t (half + (a + b))) (blocks (record { offset = a + b; size = c; log = 12 }))
+      → r ≡ someZero (record { offset = a; size = b; log = 9 }) (bytesFrom u (half + a)) (blocks (record { offset = a; size = b; log = 9 }))
       → (v ≡ hashed n) × (p || q || r ≡ zeroHashes n)
   enter-made half a b c eh ea eb ec s t u v p q r ps pt pu pv zp zq zr =
       let pt′ : t ≡ sets s (halfPlace n + (h1 n + h2 n)) (hashes3 n) = rw (eh, ea, eb) at pt in
-      let pu′ : u ≡ sets t (halfPlace n + h1 n) (digests (ivfc3 n) (λ (y : ℕ). getD t (halfPlace n + (h1 n + h2 n) + y) 0) 0 (blocks (ivfc3 n))) =
+      let pu′ : u ≡ sets t (halfPlace n + h1 n) (digests (ivfc3 n) (bytesFrom t (halfPlace n + (h1 n + h2 n))) 0 (blocks (ivfc3 n))) =
       rw (eh, ea, eb, ec) at pu in
-      let pv′ : v ≡ sets u (halfPlace n) (digests (ivfc2 n) (λ (y : ℕ). getD u (halfPlace n + h1 n + y) 0) 0 (blocks (ivfc2 n))) =
+      let pv′ : v ≡ sets u (halfPlace n) (digests (ivfc2 n) (bytesFrom u (halfPlace n + h1 n)) 0 (blocks (ivfc2 n))) =
       rw (eh, ea, eb) at pv in (
         hashed-made s t u v ps pt′ pu′ pv′,
         above-made s t u v ps pt′ pu′ pv′ p q r zp (rw (eh, ea, eb, ec) at zq) (rw (eh, ea, eb) at zr),

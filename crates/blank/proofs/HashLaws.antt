@@ -1,19 +1,19 @@
 -- The digests that the code makes and stores. Assumes nothing.
-use Prim.Native.Nat.{ℕ, zero, suc, _+_, _-_, _*_, _^_, _≤_, _<_, min}
+use Prim.Native.Nat.{ℕ, zero, suc, _+_, _-_, _*_, _≤_, _<_}
 use mathlib.Core.Bool.{Bool, true, false, _||_}
 use mathlib.Core.Path.{_≡_, refl, sym, ap, ap₂, _∙_}
-use mathlib.Core.List.{List, [], _++_}
-use mathlib.Core.Logic.{inl, inr}
+use mathlib.Core.List.{List, _++_}
+use mathlib.Core.Logic.{inr}
 use native.Mathlib.Omega.{arith}
-use native.Mathlib.Nat.{zero-add, add-zero, suc-mul}
-use lib.ListN.{length, getD, take, drop, replicate, length-take, length-replicate}
+use native.Mathlib.Nat.{zero-add, suc-mul}
+use lib.ListN.{length, getD, take, drop, length-take, length-replicate}
 use lib.Seq.{sets, length-sets}
 use lib.Pow.{pow-mono}
 use Rattle.number.specs.declared.Level.{Level}
 use Rattle.number.specs.Blocks.{blockSize, blocks, blockLength}
 use Rattle.number.specs.Bytes.{bytes, sameBytes}
 use Rattle.number.proofs.ListLaws.{length-part, bytes-part, bytes-is, bytes-cong, sets-append, sets-out, same-is}
-use Rattle.number.proofs.BlockLaws.{size-pos, exists-byte, block-inside}
+use Rattle.number.proofs.BlockLaws.{exists-byte, block-inside}
 use Rattle.sha256.specs.Sha256.{sha256}
 use Rattle.sha256.proofs.Laws.{length-sha256}
 use Rattle.ivfc.specs.Blocks.{block}
@@ -22,10 +22,11 @@ use Rattle.ivfc.specs.Rows.{digests}
 use Rattle.ivfc.proofs.EntryLaws.{block-cong}
 use Rattle.ivfc.proofs.DigestLaws.{length-digests, block-whole}
 use Rattle.ivfc.proofs.ViewLaws.{Measured, measured}
+use Rattle.blank.specs.Rules.{bytesFrom}
 use Rattle.blank.specs.Sizes.{ivfc4}
 use Rattle.blank.specs.Image.{zeros, byte4, hashes3}
 use Rattle.blank.specs.Making.{someZero}
-use Rattle.blank.proofs.SizeLaws.{Sized, sized}
+use Rattle.blank.proofs.SizeLaws.{Sized}
 use Rattle.blank.proofs.ImageLaws.{zeros-byte, blocks4}
 use Rattle.blank.proofs.StoreLaws.{padded}
 
@@ -71,15 +72,15 @@ module _ (image : List ℕ) (from : ℕ) (l : Level) (b unit own : ℕ) (p : Pla
   pub block-digest : (d : List ℕ)
       → d ≡ sha256 (take (from + b * unit + own - (from + b * unit)) (drop (from + b * unit) image)
       ++ zeros (unit - length (take (from + b * unit + own - (from + b * unit)) (drop (from + b * unit) image))))
-      → d ≡ sha256 (block l (λ (y : ℕ). getD image (from + y) 0) b)
+      → d ≡ sha256 (block l (bytesFrom image from) b)
   unfolding block
   block-digest d q =
       let r : from + b * unit + own - (from + b * unit) ≡ own = omega arith in
-      let s : take own (drop (from + b * unit) image) ≡ bytes (λ (y : ℕ). getD image (from + y) 0) (b * unit) own =
+      let s : take own (drop (from + b * unit) image) ≡ bytes (bytesFrom image from) (b * unit) own =
       sym (bytes-part image (from + b * unit) own (p .inside)) ∙ bytes-cong _ _ (from + b * unit) (b * unit) own
       (λ k h. let t : from + b * unit + k ≡ from + (b * unit + k) = omega arith in ap (λ (x : ℕ). getD image x 0) t) in
       q ∙ ap sha256 (ap₂ (λ (x y : List ℕ). x ++ y)
-      (ap (λ (k : ℕ). take k (drop (from + b * unit) image)) r ∙ s ∙ ap₂ (λ (u k : ℕ). bytes (λ (y : ℕ). getD image (from + y) 0) (b * u) k) e o)
+      (ap (λ (k : ℕ). take k (drop (from + b * unit) image)) r ∙ s ∙ ap₂ (λ (u k : ℕ). bytes (bytesFrom image from) (b * u) k) e o)
       (ap zeros (ap (λ (k : ℕ). unit - k) piece-length ∙ ap₂ (λ (u k : ℕ). u - k) e o)))
 
 -- ---- a whole block that has the bytes of the one before it
@@ -87,7 +88,7 @@ module _ (image : List ℕ) (from : ℕ) (l : Level) (b unit own : ℕ) (p : Pla
 module _ (image : List ℕ) (from : ℕ) (l : Level) (b unit own : ℕ) (f : from + l .size ≤ length image) (h : b < blocks l) (later : 1 ≤ b)
     (e : unit ≡ blockSize l) (o : own ≡ blockLength l b) (w : own ≡ unit) where
   abbrev seen : ℕ → ℕ
-  seen y = getD image (from + y) 0
+  seen = bytesFrom image from
 
   pub record Former : Type 0 where
     pub ends : from + b * unit + unit ≤ length image
@@ -125,12 +126,12 @@ module _ (image : List ℕ) (from : ℕ) (l : Level) (b unit own : ℕ) (f : fro
 
 module _ (before : List ℕ) (from : ℕ) (l : Level) (to : ℕ) (f : from + l .size ≤ length before) (t : to + 32 * blocks l ≤ from) where
   abbrev byte : ℕ → ℕ
-  byte y = getD before (from + y) 0
+  byte = bytesFrom before from
 
   -- these stores leave its blocks
   same-now : (now : List ℕ) (k b : ℕ) → k ≤ blocks l → b < blocks l → now ≡ sets before to (digests l byte 0 k)
-      → block l (λ (y : ℕ). getD now (from + y) 0) b ≡ block l byte b
-  same-now now k b most h e = block-cong l (λ (y : ℕ). getD now (from + y) 0) byte b (λ j p. kept (b * blockSize l + j) (omega (arith, inside)))
+      → block l (bytesFrom now from) b ≡ block l byte b
+  same-now now k b most h e = block-cong l (bytesFrom now from) byte b (λ j p. kept (b * blockSize l + j) (omega (arith, inside)))
     where
       kept : (y : ℕ) → y < l .size → getD now (from + y) 0 ≡ getD before (from + y) 0
       kept y p =
@@ -141,12 +142,12 @@ module _ (before : List ℕ) (from : ℕ) (l : Level) (to : ℕ) (f : from + l .
       inside = block-inside l b (omega (arith, exists-byte l b h))
 
   pub own : (now : List ℕ) (b : ℕ) (d : List ℕ) → b < blocks l → now ≡ sets before to (digests l byte 0 b)
-      → d ≡ sha256 (block l (λ (y : ℕ). getD now (from + y) 0) b) → d ≡ sha256 (block l byte b)
+      → d ≡ sha256 (block l (bytesFrom now from) b) → d ≡ sha256 (block l byte b)
   own now b d h e q = q ∙ ap sha256 (same-now now b b (omega arith) h e)
 
   -- the digest at hand is that of the block before
   pub last-now : (now : List ℕ) (b : ℕ) (d : List ℕ) → b < blocks l → now ≡ sets before to (digests l byte 0 b)
-      → (1 ≤ b → d ≡ sha256 (block l byte (b - 1))) → 1 ≤ b → d ≡ sha256 (block l (λ (y : ℕ). getD now (from + y) 0) (b - 1))
+      → (1 ≤ b → d ≡ sha256 (block l byte (b - 1))) → 1 ≤ b → d ≡ sha256 (block l (bytesFrom now from) (b - 1))
   last-now now b d h e q later = q later ∙ sym (ap sha256 (same-now now b (b - 1) (omega arith) (omega arith) e))
 
   pub next-last : (b : ℕ) (d : List ℕ) → d ≡ sha256 (block l byte b) → 1 ≤ b + 1 → d ≡ sha256 (block l byte (b + 1 - 1))
@@ -154,7 +155,7 @@ module _ (before : List ℕ) (from : ℕ) (l : Level) (to : ℕ) (f : from + l .
 
   -- one more
   pub enter-step : (now after : List ℕ) (b : ℕ) (d : List ℕ) → b < blocks l → now ≡ sets before to (digests l byte 0 b)
-      → d ≡ sha256 (block l (λ (y : ℕ). getD now (from + y) 0) b) → after ≡ sets now (to + 32 * b) d
+      → d ≡ sha256 (block l (bytesFrom now from) b) → after ≡ sets now (to + 32 * b) d
       → after ≡ sets before to (digests l byte 0 (b + 1))
   unfolding digests
   enter-step now after b d h e q s =
@@ -167,7 +168,7 @@ module _ (before : List ℕ) (from : ℕ) (l : Level) (to : ℕ) (f : from + l .
       ∙ ap (λ (m : List ℕ). sets before to m) last
 
   pub zero-step : (now : List ℕ) (b : ℕ) (d : List ℕ) (seen more : Bool) → b < blocks l → now ≡ sets before to (digests l byte 0 b)
-      → d ≡ sha256 (block l (λ (y : ℕ). getD now (from + y) 0) b) → seen ≡ someZero l byte b → more ≡ zeroEntry d
+      → d ≡ sha256 (block l (bytesFrom now from) b) → seen ≡ someZero l byte b → more ≡ zeroEntry d
       → seen || more ≡ someZero l byte (b + 1)
   unfolding someZero
   zero-step now b d seen more h e q z m =

@@ -1,22 +1,21 @@
 -- What stands where in a blank image. Assumes nothing.
 use Prim.Native.Nat.{ℕ, _+_, _-_, _*_, _≤_, _<_}
-use mathlib.Core.Path.{_≡_, refl, sym, ap, ap₂, _∙_}
+use mathlib.Core.Path.{_≡_, refl, sym, ap, _∙_}
 use mathlib.Core.Logic.{_⊎_, inl, inr}
-use mathlib.Core.List.{List, _++_, append-assoc}
+use mathlib.Core.List.{List, _++_}
 use native.Mathlib.Omega.{arith}
-use lib.ListN.{length, getD, take, drop, replicate, length-append, length-replicate, getD-replicate, List·getD-eq-default, List·getD-append}
+use lib.ListN.{length, getD, take, drop, length-append, length-replicate, getD-replicate, List·getD-eq-default}
 use lib.Seq.{sets, length-sets, ext-getD, getD-append-add}
 use native.Mathlib.Decide.{decLt}
 use Rattle.number.specs.Bytes.{Outside}
 use Rattle.number.specs.Blocks.{blockSize, blocks}
-use Rattle.number.specs.Ranges.{part}
 use Rattle.number.proofs.ListLaws.{length-part, getD-part, part-same, sets-in, sets-out}
 use Rattle.sha256.specs.Sha256.{sha256}
 use Rattle.sha256.proofs.Laws.{length-sha256}
 use Rattle.layout.specs.declared.Kind.{Kind}
 use Rattle.layout.specs.declared.Kind.the-variants.{Disa, Diff}
 use Rattle.ivfc.proofs.DigestLaws.{length-digests}
-use Rattle.blank.specs.Sizes.{up, h1, h2, h3, ivfc1, ivfc2, ivfc3, ivfc4, dpfs2, dpfs3, size2, size3, place3, partitionPlace, imageSize}
+use Rattle.blank.specs.Sizes.{up, h1, h2, h3, ivfc1, ivfc2, ivfc3, ivfc4, dpfs2, dpfs3, size2, size3, imageSize}
 use Rattle.signing.specs.Blocks.{fieldBytes}
 use Rattle.blank.specs.Fields.{levelFields}
 use Rattle.blank.specs.Image.{zeros, byte1, byte2, byte3, hashes1, hashes2, hashes3, master, difi, ivfc, dpfs, pieces, table, disaFields, diffFields, header, headerPlace, primaryPlace, halfPlace, hashed, image}

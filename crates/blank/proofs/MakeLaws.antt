@@ -1,16 +1,15 @@
 -- The whole image, and the call's answer. Assumes nothing.
-use Prim.Native.Nat.{ℕ, zero, suc, _+_, _-_, _*_, _≤_, _<_}
-use mathlib.Core.Bool.{Bool, true, false, _&&_, _||_, cond}
+use Prim.Native.Nat.{ℕ, _+_, _-_, _≤_, _<_}
+use mathlib.Core.Bool.{Bool, true, false, _||_}
 use mathlib.Core.Path.{_≡_, refl, sym, ap, ap₂, _∙_}
-use mathlib.Core.List.{List, [], _∷_, _++_}
+use mathlib.Core.List.{List, _++_}
 use native.Mathlib.Omega.{arith}
-use native.Mathlib.Nat.{zero-add}
 use lib.ListN.{length, getD, take, drop}
 use lib.Seq.{sets, length-sets}
-use lib.Dec.{leb, eqb}
-use borrow.Author.Tests.{le-leb, lt-leb, eq-eqb, ne-eqb}
+use lib.Dec.{eqb}
+use borrow.Author.Tests.{eq-eqb, ne-eqb}
 use Rattle.number.specs.declared.Level.{Level}
-use Rattle.number.specs.Blocks.{blockSize, blocks}
+use Rattle.number.specs.Blocks.{blocks}
 use Rattle.number.proofs.Tests.{and-both, left-fails, right-fails}
 use Rattle.sha256.specs.Sha256.{sha256}
 use Rattle.layout.specs.declared.Kind.{Kind}
@@ -20,7 +19,8 @@ use Rattle.ivfc.specs.Verified.{zeroEntry}
 use Rattle.ivfc.specs.Rows.{digests}
 use Rattle.steps.specs.declared.Ending.{Ending}
 use Rattle.steps.specs.declared.Ending.the-variants.{Accepted, Refused, Dropped}
-use Rattle.blank.specs.Sizes.{countAllowed, h1, ivfc1, imageSize}
+use Rattle.blank.specs.Rules.{bytesFrom}
+use Rattle.blank.specs.Sizes.{blocksAllowed, h1, ivfc1, imageSize}
 use Rattle.blank.specs.Image.{zeros, byte1, master, pieces, table, header, headerWith, halfPlace, hashed, image}
 use Rattle.blank.specs.Making.{blankLength, someZero, zeroTable, zeroDigest, suited, Made, made}
 use Rattle.blank.proofs.SizeLaws.{Sized}
@@ -52,11 +52,11 @@ module _ (n : ℕ) (w : Sized n) (half a : ℕ) (eh : half ≡ halfPlace n) (ea 
       let e : halfPlace n + y ≡ 0x2000 + (0 + y) = omega (arith, im.half-at n w) in
       ap₂ (λ (l : List ℕ) (x : ℕ). getD l x 0) ps e ∙ im.hashed1 n w y h
 
-  module _ (d : List ℕ) (pd : d ≡ sha256 (block (record { offset = 0; size = a; log = 9 }) (λ (y : ℕ). getD s (half + y) 0) 0)) where
+  module _ (d : List ℕ) (pd : d ≡ sha256 (block (record { offset = 0; size = a; log = 9 }) (bytesFrom s half) 0)) where
     digest-is : d ≡ sha256 (block (ivfc1 n) (byte1 n) 0)
     digest-is =
-        let q : d ≡ sha256 (block (ivfc1 n) (λ (y : ℕ). getD s (halfPlace n + y) 0) 0) = rw (eh, ea) at pd in
-        q ∙ ap sha256 (same-block (ivfc1 n) (λ (y : ℕ). getD s (halfPlace n + y) 0) (byte1 n) level1-at 0 (omega (arith, im.blocks1 n w)))
+        let q : d ≡ sha256 (block (ivfc1 n) (bytesFrom s (halfPlace n)) 0) = rw (eh, ea) at pd in
+        q ∙ ap sha256 (same-block (ivfc1 n) (bytesFrom s (halfPlace n)) (byte1 n) level1-at 0 (omega (arith, im.blocks1 n w)))
 
     master-is : d ≡ master n
     unfolding master
@@ -99,25 +99,25 @@ module _ (n : ℕ) (w : Sized n) (half a : ℕ) (eh : half ≡ halfPlace n) (ea 
 
 -- ---- the call
 
-pub length-in : (n r : ℕ) → countAllowed n ≡ true → r ≡ imageSize n → r ≡ blankLength n
+pub length-in : (n r : ℕ) → blocksAllowed n ≡ true → r ≡ imageSize n → r ≡ blankLength n
 unfolding blankLength
 length-in n r allowed e = rw allowed e
 
-pub length-out : (n : ℕ) → countAllowed n ≡ false → 0 ≡ blankLength n
+pub length-out : (n : ℕ) → blocksAllowed n ≡ false → 0 ≡ blankLength n
 unfolding blankLength
 length-out n e = rw e
 
-pub wrong-count : (length n : ℕ) → countAllowed n ≡ false → suited length n ≡ false
+pub wrong-count : (length n : ℕ) → blocksAllowed n ≡ false → suited length n ≡ false
 unfolding suited
-wrong-count length n e = left-fails (countAllowed n) (eqb length (imageSize n)) e
+wrong-count length n e = left-fails (blocksAllowed n) (eqb length (imageSize n)) e
 
 pub wrong-length : (length n size : ℕ) → size ≡ imageSize n → (length ≡ size → ⊥) → suited length n ≡ false
 unfolding suited
-wrong-length length n size e h = right-fails (countAllowed n) (eqb length (imageSize n)) (ne-eqb length (imageSize n) (λ q. h (q ∙ sym e)))
+wrong-length length n size e h = right-fails (blocksAllowed n) (eqb length (imageSize n)) (ne-eqb length (imageSize n) (λ q. h (q ∙ sym e)))
 
-just-right : (length n : ℕ) → countAllowed n ≡ true → length ≡ imageSize n → suited length n ≡ true
+just-right : (length n : ℕ) → blocksAllowed n ≡ true → length ≡ imageSize n → suited length n ≡ true
 unfolding suited
-just-right length n allowed e = and-both (countAllowed n) (eqb length (imageSize n)) allowed (eq-eqb length (imageSize n) e)
+just-right length n allowed e = and-both (blocksAllowed n) (eqb length (imageSize n)) allowed (eq-eqb length (imageSize n) e)
 
 -- what the call answers and leaves is what the definition says
 abbrev pub Leaves : Ending → (left : List ℕ) → Made → Type 0
@@ -130,7 +130,7 @@ pub refused : (lent : List ℕ) (kind : Kind) (n : ℕ) → suited (length lent)
 unfolding made
 refused lent kind n e = leaves (Refused BlankSize) lent (made lent kind n) (rw (made, e) refl)
 
-module _ (lent : List ℕ) (kind : Kind) (n size : ℕ) (allowed : countAllowed n ≡ true) (e : size ≡ imageSize n) (s : length lent ≡ size) where
+module _ (lent : List ℕ) (kind : Kind) (n size : ℕ) (allowed : blocksAllowed n ≡ true) (e : size ≡ imageSize n) (s : length lent ≡ size) where
   -- the image as it was cleared
   pub cleared : (t : List ℕ) → t ≡ zeros (length lent) → t ≡ zeros (imageSize n)
   cleared t p = p ∙ ap zeros (s ∙ e)

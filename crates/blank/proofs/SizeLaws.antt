@@ -1,13 +1,13 @@
 -- The sizes of a blank image for 1 to 4096 blocks, as linear facts. Assumes nothing.
 use Prim.Native.Nat.{ℕ, suc, _+_, _-_, _*_, _/_, _≤_, _<_}
 use mathlib.Core.Bool.{true}
-use mathlib.Core.Path.{_≡_, refl, sym, ap, _∙_}
+use mathlib.Core.Path.{_≡_, refl, ap, _∙_}
 use native.Mathlib.Omega.{arith}
 use native.Mathlib.Nat.{lt-mul-div-succ, mul-div-le, div-eq-of-lt-le, div-lt-iff-lt-mul, mul-comm, mul-add, mul-assoc, suc-mul, mul-le-mul-left}
 use borrow.Author.Tests.{leb-true}
 use lib.Dec.{leb}
 use Rattle.number.proofs.Tests.{and-left, and-right}
-use Rattle.blank.specs.Sizes.{countAllowed, up, next, bitsFor, h1, h2, h3, place4, size1, size2, size3, place2, place3, partitionSize, imageSize}
+use Rattle.blank.specs.Sizes.{blocksAllowed, up, next, bitsFor, h1, h2, h3, place4, size1, size2, size3, place2, place3, partitionSize, imageSize}
 
 -- rounded up: enough, and less than one unit too many
 pub record Rounded (x unit r : ℕ) : Type 0 where
@@ -53,8 +53,8 @@ bits-least count unit k h e =
     let m : 8 * unit * k ≡ 8 * (unit * k) = mul-assoc 8 unit k in
     mul-le-mul-left unit (fewest count (8 * unit) k (omega arith) (omega arith))
 
-pub allowed-range : (n : ℕ) → countAllowed n ≡ true → (1 ≤ n) × (n ≤ 4096)
-unfolding countAllowed
+pub allowed-range : (n : ℕ) → blocksAllowed n ≡ true → (1 ≤ n) × (n ≤ 4096)
+unfolding blocksAllowed
 allowed-range n e = (leb-true 1 n (and-left (leb 1 n) _ e), leb-true n 4096 (and-right (leb 1 n) _ e))
 
 -- every size by the blocks that it counts: c of IVFC level 3, d of level 2; k and n of DPFS level 3, s of its level 2

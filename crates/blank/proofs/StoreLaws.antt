@@ -1,12 +1,11 @@
 -- What the loops store. Assumes nothing.
-use Prim.Native.Nat.{ℕ, zero, suc, _+_, _-_, _*_, _/_, _%_, _≤_, _<_, min}
-use mathlib.Core.Path.{_≡_, refl, sym, ap, _∙_}
-use mathlib.Core.List.{List, [], _∷_, _++_}
-use mathlib.Core.Logic.{inl, inr}
+use Prim.Native.Nat.{ℕ, suc, _+_, _-_, _*_, _≤_, _<_}
+use mathlib.Core.Path.{_≡_, sym, ap, _∙_}
+use mathlib.Core.List.{List, _++_}
+use mathlib.Core.Logic.{inr}
 use native.Mathlib.Omega.{arith}
-use native.Mathlib.Nat.{add-zero}
 use native.Mathlib.Decide.{decLt}
-use lib.ListN.{length, getD, take, drop, set, replicate, length-append, length-replicate, length-take, length-set, List·getD-append}
+use lib.ListN.{length, getD, take, drop, set, length-append, length-replicate, length-take, List·getD-append}
 use lib.Seq.{sets, length-sets, ext-getD, drop-cons, drop-length, getD-take, getD-append-add, getD-set-same, getD-set-other}
 use Rattle.number.proofs.ListLaws.{sets-append, sets-in, sets-out}
 use Rattle.signing.proofs.FieldLaws.{length-field}

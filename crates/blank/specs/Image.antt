@@ -1,22 +1,21 @@
 -- The bytes of a blank image of one partition with internal level 4, for n blocks.
-use Prim.Native.Nat.{ℕ, _+_, _*_}
-use mathlib.Core.List.{List, [], _∷_, _++_}
+use Prim.Native.Nat.{ℕ, _+_}
+use mathlib.Core.List.{List, _++_}
 use lib.ListN.{getD, replicate}
 use lib.Seq.{sets}
-use Rattle.number.specs.declared.Level.{Level}
 use Rattle.number.specs.Blocks.{blocks}
 use Rattle.sha256.specs.Sha256.{sha256}
 use Rattle.layout.specs.declared.Kind.{Kind}
 use Rattle.layout.specs.declared.Kind.the-variants.{Disa, Diff}
 use Rattle.layout.specs.Magic.{disaMagic, diffMagic, difiMagic, ivfcMagic, dpfsMagic}
 use Rattle.ivfc.specs.Rows.{digests}
-use Rattle.blank.specs.Sizes.{h1, h2, h3, ivfc1, ivfc2, ivfc3, ivfc4, dpfs1, dpfs2, dpfs3, place3, partitionPlace, partitionSize, imageSize}
+use Rattle.blank.specs.Sizes.{ivfc1, ivfc2, ivfc3, ivfc4, dpfs1, dpfs2, dpfs3, place3, partitionPlace, partitionSize, imageSize}
 use Rattle.blank.specs.Fields.{four, eight, levelFields}
 
 abbrev pub zeros : ℕ → List ℕ
 zeros n = replicate n 0
 
--- ---- the hash levels: each holds the digests of the next level's blocks, one after another, so that every block stands
+-- ---- the hash levels: each holds the digests of the next level's blocks, one after another, so that every block is verified
 
 -- level 4 is all zero
 abbrev pub byte4 : ℕ → ℕ

@@ -2,3 +2,4 @@ pub mod Sizes
 pub mod Fields
 pub mod Image
 pub mod Making
+pub mod Rules

@@ -1,6 +1,6 @@
 -- What the call answers and leaves.
 use Prim.Native.Nat.{ℕ, zero, suc}
-use mathlib.Core.Bool.{Bool, true, false, _&&_, _||_, cond}
+use mathlib.Core.Bool.{Bool, false, _&&_, _||_, cond}
 use mathlib.Core.List.{List}
 use lib.ListN.{length}
 use lib.Dec.{eqb}
@@ -13,12 +13,12 @@ use Rattle.ivfc.specs.Blocks.{block}
 use Rattle.ivfc.specs.Verified.{zeroEntry}
 use Rattle.steps.specs.declared.Ending.{Ending}
 use Rattle.steps.specs.declared.Ending.the-variants.{Accepted, Refused, Dropped}
-use Rattle.blank.specs.Sizes.{countAllowed, ivfc1, ivfc2, ivfc3, ivfc4, imageSize}
+use Rattle.blank.specs.Sizes.{blocksAllowed, ivfc1, ivfc2, ivfc3, ivfc4, imageSize}
 use Rattle.blank.specs.Image.{zeros, byte1, byte2, byte3, byte4, table, image}
 
 -- how many bytes a host lends: none where n is out of range
 unfoldable pub blankLength : (n : ℕ) → ℕ
-blankLength n = cond (countAllowed n) (imageSize n) 0
+blankLength n = cond (blocksAllowed n) (imageSize n) 0
 
 -- ---- 17: a digest that is all zero
 
@@ -46,7 +46,7 @@ zeroDigest n = zeroHashes n || zeroTable n
 
 -- n is in range and the lent image is just that long; else 20
 unfoldable pub suited : (length n : ℕ) → Bool
-suited length n = countAllowed n && eqb length (imageSize n)
+suited length n = blocksAllowed n && eqb length (imageSize n)
 
 -- the answer, and the image that is left: untouched by 20, all zero by 17
 pub record Made : Type 0 where

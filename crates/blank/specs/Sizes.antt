@@ -5,8 +5,8 @@ use lib.Dec.{leb}
 use Rattle.number.specs.declared.Level.{Level}
 
 -- n is from 1 to 4096
-unfoldable pub countAllowed : (n : ℕ) → Bool
-countAllowed n = leb 1 n && leb n 4096
+unfoldable pub blocksAllowed : (n : ℕ) → Bool
+blocksAllowed n = leb 1 n && leb n 4096
 
 -- x / unit, rounded up
 unfoldable pub up : (x unit : ℕ) → ℕ

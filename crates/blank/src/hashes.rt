@@ -12,14 +12,15 @@ use number::runs::same_bytes;
 use sha256::digest;
 ghost use mathlib.Core.Path.{_≡_};
 ghost use mathlib.Core.Bool.{true};
-ghost use mathlib.Core.List.{List, _++_};
+ghost use mathlib.Core.List.{_++_};
 ghost use Prim.Native.Nat.{ℕ, _+_, _-_, _*_, _≤_, _<_};
-ghost use lib.ListN.{length, getD};
+ghost use lib.ListN.{length};
 ghost use lib.Seq.{sets};
-ghost use Rattle.number.specs.Blocks.{blocks, blockSize};
+ghost use Rattle.number.specs.Blocks.{blocks};
 ghost use Rattle.sha256.specs.Sha256.{sha256};
 ghost use Rattle.ivfc.specs.Blocks.{block};
 ghost use Rattle.ivfc.specs.Rows.{digests};
+ghost use Rattle.blank.specs.Rules.{bytesFrom};
 ghost use Rattle.blank.specs.Sizes as spec;
 ghost use Rattle.blank.specs.Image.{byte4, hashes3, hashed, halfPlace, zeros};
 ghost use Rattle.blank.specs.Making.{someZero, zeroHashes};
@@ -40,7 +41,7 @@ fn digest_padded(bytes: &[u8], unit: usize) -> [u8; 32]
 // The digest of block b of the level whose first byte stands at `from`.
 pub fn digest_at(image: &[u8], from: u64, l: Level, b: u64) -> [u8; 32]
     requires { ⌜ (from + l .size ≤ length (now image)) × (l .log ≤ 12) × (b < blocks l) × (length (now image) ≤ 0x4000000) ⌝ }
-    ensures { λ r. ⌜ r ≡ sha256 (block l (λ (y : ℕ). getD (now (image .entry)) (from + y) 0) b) ⌝ }
+    ensures { λ r. ⌜ r ≡ sha256 (block l (bytesFrom (now (image .entry)) from) b) ⌝ }
 {
     let unit = block_size(l);
     let start = (from + b * unit) as usize;
@@ -51,7 +52,7 @@ pub fn digest_at(image: &[u8], from: u64, l: Level, b: u64) -> [u8; 32]
 // Block b, from 1 on, is whole and has the bytes of the block before it.
 fn repeats(image: &[u8], from: u64, l: Level, b: u64) -> bool
     requires { ⌜ (from + l .size ≤ length (now image)) × (l .log ≤ 12) × (b < blocks l) × (length (now image) ≤ 0x4000000) × (1 ≤ b) ⌝ }
-    ensures { λ r. ⌜ (r ≡ true → block l (λ (y : ℕ). getD (now (image .entry)) (from + y) 0) b ≡ block l (λ (y : ℕ). getD (now (image .entry)) (from + y) 0) (b - 1)) ⌝ }
+    ensures { λ r. ⌜ (r ≡ true → block l (bytesFrom (now (image .entry)) from) b ≡ block l (bytesFrom (now (image .entry)) from) (b - 1)) ⌝ }
 {
     let unit = block_size(l);
     if block_length(l, b) != unit {
@@ -65,8 +66,8 @@ fn repeats(image: &[u8], from: u64, l: Level, b: u64) -> bool
 // The digest of block b, where that of the block before it is at hand: an equal block is not hashed again. In a blank image all blocks of a hash
 // level are equal but the last.
 fn digest_next(image: &[u8], from: u64, l: Level, b: u64, last: [u8; 32]) -> [u8; 32]
-    requires { ⌜ (from + l .size ≤ length (now image)) × (l .log ≤ 12) × (b < blocks l) × (length (now image) ≤ 0x4000000) × (1 ≤ b → last ≡ sha256 (block l (λ (y : ℕ). getD (now image) (from + y) 0) (b - 1))) ⌝ }
-    ensures { λ r. ⌜ r ≡ sha256 (block l (λ (y : ℕ). getD (now (image .entry)) (from + y) 0) b) ⌝ }
+    requires { ⌜ (from + l .size ≤ length (now image)) × (l .log ≤ 12) × (b < blocks l) × (length (now image) ≤ 0x4000000) × (1 ≤ b → last ≡ sha256 (block l (bytesFrom (now image) from) (b - 1))) ⌝ }
+    ensures { λ r. ⌜ r ≡ sha256 (block l (bytesFrom (now (image .entry)) from) b) ⌝ }
 {
     if 1 <= b {
         if repeats(image, from, l, b) {
@@ -79,8 +80,8 @@ fn digest_next(image: &[u8], from: u64, l: Level, b: u64, last: [u8; 32]) -> [u8
 // Stores the digests of a level's blocks, one after another, at `to`, before the level. Is one of them all zero?
 fn enter_digests(image: &mut [u8], from: u64, l: Level, to: u64) -> bool
     requires { ⌜ (from + l .size ≤ length (now image)) × (l .log ≤ 12) × (to + 32 * blocks l ≤ from) × (length (now image) ≤ 0x4000000) ⌝ }
-    ensures { λ r. ⌜ now (image .exit) ≡ sets (now (image .entry)) to (digests l (λ (y : ℕ). getD (now (image .entry)) (from + y) 0) 0 (blocks l)) ⌝ }
-    ensures { λ r. ⌜ r ≡ someZero l (λ (y : ℕ). getD (now (image .entry)) (from + y) 0) (blocks l) ⌝ }
+    ensures { λ r. ⌜ now (image .exit) ≡ sets (now (image .entry)) to (digests l (bytesFrom (now (image .entry)) from) 0 (blocks l)) ⌝ }
+    ensures { λ r. ⌜ r ≡ someZero l (bytesFrom (now (image .entry)) from) (blocks l) ⌝ }
 {
     let count = block_count(l);
     let mut zero = false;

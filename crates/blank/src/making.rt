@@ -1,6 +1,6 @@
 // The public calls: how long a blank image is, and making one in a lent image. They ask nothing of their caller.
 use super::filling::fill;
-use super::sizes::count_allowed;
+use super::sizes::blocks_allowed;
 use super::sizes::image_size;
 use layout::Kind;
 use layout::Refusal;
@@ -15,7 +15,7 @@ ghost use Rattle.blank.specs.Making.{blankLength, made};
 pub fn blank_length(n: u64) -> u64
     ensures { λ r. ⌜ r ≡ blankLength n ⌝ }
 {
-    if count_allowed(n) { image_size(n) } else { 0 }
+    if blocks_allowed(n) { image_size(n) } else { 0 }
 }
 
 // Makes every byte zero.
@@ -34,7 +34,7 @@ fn clear(image: &mut [u8])
 pub fn make_blank(image: &mut [u8], kind: Kind, n: u64) -> Ending
     ensures { λ r. ⌜ (r ≡ made (now (image .entry)) kind n .outcome) × (now (image .exit) ≡ made (now (image .entry)) kind n .image) ⌝ }
 {
-    if !count_allowed(n) {
+    if !blocks_allowed(n) {
         return Ending::Refused(Refusal::BlankSize);
     }
     if image.len() as u64 != image_size(n) {

@@ -10,7 +10,7 @@ use Rattle.number.proofs.Tests.{and-left}
 use Rattle.layout.specs.declared.Kind.{Kind}
 use Rattle.layout.specs.declared.Refusal.the-variants.{BlankSize}
 use Rattle.steps.specs.declared.Ending.the-variants.{Accepted, Refused, Dropped}
-use Rattle.blank.specs.Sizes.{countAllowed, imageSize}
+use Rattle.blank.specs.Sizes.{blocksAllowed, imageSize}
 use Rattle.blank.specs.Image.{zeros, image}
 use Rattle.blank.specs.Making.{zeroDigest, suited, Made, made}
 use Rattle.blank.proofs.SizeLaws.{next-reaches, next-least, bits-enough, bits-least}
@@ -26,13 +26,13 @@ left lent kind n fits none =
     (record { outcome = Refused BlankSize; image = lent })
 
 makes : (lent : List ℕ) (kind : Kind) (n : ℕ) → made lent kind n .outcome ≡ Accepted
-    → (made lent kind n .image ≡ image kind n) × (countAllowed n ≡ true) × (zeroDigest n ≡ false)
+    → (made lent kind n .image ≡ image kind n) × (blocksAllowed n ≡ true) × (zeroDigest n ≡ false)
 unfolding made suited
 makes lent kind n e = go (suited (length lent) n) (zeroDigest n) refl refl e
   where
     go : (s z : Bool) → suited (length lent) n ≡ s → zeroDigest n ≡ z → left lent kind n s z .outcome ≡ Accepted
-        → (left lent kind n s z .image ≡ image kind n) × (countAllowed n ≡ true) × (zeroDigest n ≡ false)
-    go true false p q e = (refl, and-left (countAllowed n) (eqb (length lent) (imageSize n)) p, q)
+        → (left lent kind n s z .image ≡ image kind n) × (blocksAllowed n ≡ true) × (zeroDigest n ≡ false)
+    go true false p q e = (refl, and-left (blocksAllowed n) (eqb (length lent) (imageSize n)) p, q)
     go true true p q e = let k : _≡_ {A = ℕ} 0 1 = cc in absurd (omega arith)
     go false z p q e = let k : _≡_ {A = ℕ} 0 1 = cc in absurd (omega arith)
 

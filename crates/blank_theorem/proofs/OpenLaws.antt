@@ -1,8 +1,8 @@
 -- A blank image opens, for either kind and every n in range. Assumes nothing.
 use Prim.Native.Nat.{ℕ, _+_, _*_, _%_, _^_, _≤_, _<_}
-use mathlib.Core.Bool.{Bool, true, false, _&&_, _||_, not}
+use mathlib.Core.Bool.{true, false, not}
 use mathlib.Core.List.{List, [], _∷_, _++_, append-assoc}
-use mathlib.Core.Logic.{_⊎_, inl, inr}
+use mathlib.Core.Logic.{inl}
 use mathlib.Core.Path.{_≡_, refl, sym, ap, ap₂, _∙_}
 use native.Mathlib.Omega.{arith}
 use lib.ListN.{length, take, drop}
@@ -16,7 +16,6 @@ use Rattle.number.specs.Blocks.{blocks}
 use Rattle.number.specs.Bytes.{sameBytes}
 use Rattle.number.proofs.Tests.{and-both}
 use Rattle.number.proofs.ListLaws.{same-refl}
-use Rattle.number.proofs.RangeLaws.{First, Laid}
 use Rattle.sha256.specs.Sha256.{sha256}
 use Rattle.sha256.proofs.Laws.{length-sha256}
 use Rattle.layout.specs.declared.Kind.{Kind}
@@ -25,15 +24,15 @@ use Rattle.layout.specs.declared.Header.{Header}
 use Rattle.layout.specs.declared.Partition.{Partition}
 use Rattle.layout.specs.declared.Opened.the-variants.{Valid}
 use Rattle.layout.specs.declared.JudgedPartition.the-variants.{GoodPartition}
-use Rattle.layout.specs.Magic.{opensWith, difiMagic, ivfcMagic, dpfsMagic}
-use Rattle.layout.specs.Headers.{noSlot, front, headerBytes, hashRange, judgedHeader, disaHeader, diffHeader, headerMagic, headerFields, selectionAllowed, geometryAllowed, partitionRanges, descriptorRanges}
+use Rattle.layout.specs.Magic.{opensWith, ivfcMagic, dpfsMagic}
+use Rattle.layout.specs.Headers.{noSlot, front, headerBytes, hashRange, judgedHeader, disaHeader, diffHeader, headerMagic, headerFields, selectionAllowed, geometryAllowed}
 use Rattle.layout.specs.Every.{onto, every}
 use Rattle.limits.specs.Limits.{shortestImage, longestImage, lengthAllowed, tableAllowed, entrySize, wordSize, leastLog, leastBitsLog}
 use Rattle.layout.specs.Opening.{opened}
 use Rattle.layout.specs.Tables.{active, tableMatches}
 use Rattle.layout.specs.Descriptors.{difiFields, ivfcFields, dpfsFields, partitionFields, difiAllowed, ivfcAllowed, dpfsAllowed, formAllowed, piecesPlaced, levelsPlaced, allEnough, enoughBits, enoughEntries, placesAllowed, readable, judgedPartition}
 use Rattle.layout.proofs.HeaderLaws.{HeaderChecks, header-passes}
-use Rattle.layout.proofs.GuaranteeLaws.{Checks, TableChecks, PartitionChecks, partition-passes}
+use Rattle.layout.proofs.GuaranteeLaws.{TableChecks, partition-passes}
 use Rattle.layout.proofs.GuaranteeLaws as layout
 use Rattle.blank.specs.Sizes.{h1, h2, h3, ivfc1, ivfc2, ivfc3, ivfc4, dpfs2, dpfs3, place4, size1, size2, size3, place2, place3, partitionPlace, partitionSize, imageSize}
 use Rattle.signing.specs.Blocks.{fieldBytes}

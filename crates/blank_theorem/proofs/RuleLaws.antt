@@ -3,14 +3,14 @@ use Prim.Native.Nat.{ℕ, _+_, _%_, _≤_}
 use mathlib.Core.Bool.{Bool, true, false, _&&_, _||_}
 use mathlib.Core.List.{List, [], _∷_}
 use mathlib.Core.Logic.{inl, inr}
-use mathlib.Core.Path.{_≡_, refl, sym, ap, _∙_}
+use mathlib.Core.Path.{_≡_, refl}
 use lib.Dec.{leb, eqb}
 use borrow.Author.Tests.{le-leb, eq-eqb}
 use Rattle.number.specs.declared.Range.{Range}
 use Rattle.number.specs.declared.Level.{Level}
 use Rattle.number.specs.Ranges.{inside, apart, Apart, fits, clear, placed}
 use Rattle.number.proofs.Tests.{and-both}
-use Rattle.number.proofs.RangeLaws.{AllApart, First, Laid}
+use Rattle.number.proofs.RangeLaws.{AllApart, Laid}
 use Rattle.layout.specs.Every.{onto, every}
 use Rattle.limits.specs.Limits.{mostLog, sizeAllowed, levelAllowed}
 use Rattle.layout.proofs.Rules.{Truths}

@@ -20,12 +20,12 @@ use Rattle.layout.specs.declared.Container.{Container}
 use Rattle.layout.specs.declared.Outcome.{Outcome}
 use Rattle.layout.specs.declared.Outcome.the-variants as outcome
 use Rattle.layout.specs.declared.Refusal.{Refusal}
-use Rattle.layout.specs.declared.Refusal.the-variants.{Unverified, NoPartition, ExternalLevel, SessionState, Stale}
+use Rattle.layout.specs.declared.Refusal.the-variants.{Unverified, NoPartition, SessionState, Stale}
 use Rattle.layout.specs.declared.Opened.{Opened}
 use Rattle.layout.specs.declared.Opened.the-variants.{Valid}
 use Rattle.layout.specs.Opening.{opened}
 use Rattle.ivfc.specs.declared.View.{View}
-use Rattle.ivfc.specs.Verified.{firstNot, countOf}
+use Rattle.ivfc.specs.Verified.{countOf}
 use Rattle.ivfc.specs.Views.{levelOf, contentOf, verified}
 use Rattle.ivfc.proofs.LowestLaws.{Lowest, first-lowest}
 use Rattle.update.specs.Covering.{covered}
@@ -36,10 +36,12 @@ use Rattle.steps.specs.declared.Ending.the-variants as ending
 use Rattle.steps.specs.declared.Session.{Session}
 use Rattle.steps.specs.Reading.{refuseLowest, readOutcome, readFrom, Read, filled, countIn}
 use Rattle.steps.specs.Sessions.{idle, current, endsOutcome, writeOutcome}
-use Rattle.steps.specs.Calls.{readIn, readCommitted, countVerifiedIn, countVerified, After, unchanged, done, finished, leaving, inSession, writeOn, write, unread}
+use Rattle.steps.specs.Calls.{readIn, readCommitted, countVerifiedIn, countVerified, unchanged, done, finished, leaving, inSession, writeOn, write, unread}
 use Rattle.steps.proofs.ReadLaws.{first-last, none-refused, nothing-touched, inside-passes, last-exists}
-use Rattle.history.specs.Model.{Version, versionOf, Call, Write, Ruling, Accepted, Dropped, endingOf, Model, followed}
+use Rattle.views.specs.Versions.{Version}
+use Rattle.history.specs.Model.{Call, Write, Accepted, Dropped, endingOf, Model, followed}
 use Rattle.history.specs.Run.{State, perform, ruled, after, events, begins, commits, lastValue}
+use Rattle.history.specs.External.{StartThere}
 use Rattle.history.specs.Theorem.{Has, Start, committedIn, Landed}
 use Rattle.history.proofs.Calls.{call-laws}
 use Rattle.history.proofs.CallCases.{idle-rests}
@@ -113,28 +115,28 @@ module _ (s : List ℕ) (c : Container) (o : opened s ≡ Valid c) (there : 0 < 
       answered t a p q = rw (p, q) refl
 
   -- accepted, or dropped
-  write-shown : (session : Session) → session .begun ≡ true → current c s session ≡ true → stagedView c 0 .external ≡ false
+  write-shown : (session : Session) → session .begun ≡ true → current c s session ≡ true
       → (all : (b : ℕ) → b < blocks (stagedView c 0 .level4) → verified (stagedView c 0) s 4 b ≡ true) (place : ℕ) (bytes : List ℕ)
       → place + length bytes ≤ stagedView c 0 .level4 .size
       → (endingOf (write s session 0 place bytes .outcome) ≡ Accepted) ⊎ (endingOf (write s session 0 place bytes .outcome) ≡ Dropped)
   unfolding write finished
-  write-shown session b k i all place bytes h =
+  write-shown session b k all place bytes h =
       go (holdsZero (stagedView c 0) place bytes (writtenTo (stagedView c 0) place bytes s))
       (ap (λ (x : Opened). endingOf (inSession s session (writeOn s session 0 place bytes) x .outcome)) o
-      ∙ answered (session .begun) (current c s session) (ltb 0 (partitions c)) (stagedView c 0 .external)
+      ∙ answered (session .begun) (current c s session) (ltb 0 (partitions c))
       (holdsZero (stagedView c 0) place bytes (writtenTo (stagedView c 0) place bytes s)) (writeOutcome (stagedView c 0) s place (length bytes))
-      b k (lt-ltb 0 (partitions c) there) i (write-passes (stagedView c 0) s all place (length bytes) h))
+      b k (lt-ltb 0 (partitions c) there) (write-passes (stagedView c 0) s all place (length bytes) h))
     where
       last : List ℕ
       last = writtenTo (stagedView c 0) place bytes s
 
-      answered : (t u q e z : Bool) (a : Outcome) → t ≡ true → u ≡ true → q ≡ true → e ≡ false → a ≡ outcome.Accepted
-          → endingOf (cond t (cond u (cond q (cond e (unchanged s session ExternalLevel)
-          (leaving a s session (cond z (record { outcome = ending.Dropped; image = last; session = idle }) (done last session))))
+      answered : (t u q z : Bool) (a : Outcome) → t ≡ true → u ≡ true → q ≡ true → a ≡ outcome.Accepted
+          → endingOf (cond t (cond u (cond q
+          (leaving a s session (cond z (record { outcome = ending.Dropped; image = last; session = idle }) (done last session)))
           (unchanged s session NoPartition)) (unchanged s session Stale)) (unchanged s session SessionState) .outcome)
           ≡ endingOf (cond z ending.Dropped ending.Accepted)
-      answered t u q e true a p0 p1 p2 p3 p4 = rw (p0, p1, p2, p3, p4) refl
-      answered t u q e false a p0 p1 p2 p3 p4 = rw (p0, p1, p2, p3, p4) refl
+      answered t u q true a p0 p1 p2 p3 = rw (p0, p1, p2, p3) refl
+      answered t u q false a p0 p1 p2 p3 = rw (p0, p1, p2, p3) refl
 
       go : (z : Bool) → endingOf (write s session 0 place bytes .outcome) ≡ endingOf (cond z ending.Dropped ending.Accepted)
           → (endingOf (write s session 0 place bytes .outcome) ≡ Accepted) ⊎ (endingOf (write s session 0 place bytes .outcome) ≡ Dropped)
@@ -203,10 +205,6 @@ module _ (kind : Kind) (n : ℕ) (w : Blank kind n) where
       followed-whole (ivfc4 n) 0 (events calls st) (record { committed = committedIn (start .has); staged = none })
       (whole-of (ivfc4 n) live (image kind n) live4 stands, tt)
 
-  internal-staged : {s : List ℕ} (has : Has s 0) → stagedView (has .container) 0 .external ≡ false
-  unfolding stagedView viewIn
-  internal-staged has = has .internal
-
   writes : (calls : List Call) (place : ℕ) (bytes : List ℕ) → after calls st .session .begun ≡ true → place + length bytes ≤ 0x1000 * n
       → (ruled (Write 0 place bytes) (after calls st) ≡ Accepted) ⊎ (ruled (Write 0 place bytes) (after calls st) ≡ Dropped)
   unfolding perform
@@ -222,7 +220,7 @@ module _ (kind : Kind) (n : ℕ) (w : Blank kind n) where
       go (some v) t a =
           let seen = shows (ivfc4 n) (stagedView (g .has .container) 0) (after calls st .image) v (t .2) a in
           write-shown (after calls st .image) (g .has .container) (g .has .opens) (g .has .there) (after calls st .session) (t .0) (t .1)
-          (internal-staged (g .has)) (seen .all) place bytes (omega (arith, ap (λ (l : Level). l .size) (seen .level)))
+          (seen .all) place bytes (omega (arith, ap (λ (l : Level). l .size) (seen .level)))
 
   -- ---- after a commit
 
@@ -250,8 +248,11 @@ module _ (kind : Kind) (n : ℕ) (w : Blank kind n) where
       seen : Shows (ivfc4 n) (committedView d 0) s
       seen = shows (ivfc4 n) (committedView d 0) s (modelOf calls .committed) (g .committed) (whole calls .0)
 
-      landed : Landed 0 (events calls st) (image kind n) s (start .has)
-      landed = demand3 .landing .landed 0 st start calls one-begin some-commit
+      begins-there : StartThere 0 st
+      begins-there = record { has = record { container = c; opens = w .opens; there = one }; idle = start .idle }
+
+      landed : Landed 0 (events calls st) (image kind n) s (begins-there .has)
+      landed = demand3 .landing .landed 0 st begins-there calls one-begin some-commit
 
       byte : (i : ℕ) → i < 0x1000 * n → contentOf (committedView d 0) s 4 i ≡ Option·getD (lastValue 0 i (events calls st)) 0
       byte i p =

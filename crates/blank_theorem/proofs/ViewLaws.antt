@@ -1,8 +1,7 @@
 -- What the committed view of a blank image reads. Assumes nothing.
-use Prim.Native.Nat.{ℕ, zero, suc, _+_, _-_, _*_, _/_, _%_, _^_, _≤_, _<_}
-use mathlib.Core.Bool.{Bool, true, false, cond}
-use mathlib.Core.List.{List}
-use mathlib.Core.Path.{_≡_, refl, sym, ap, _∙_}
+use Prim.Native.Nat.{ℕ, zero, suc, _+_, _-_, _%_, _^_, _≤_, _<_}
+use mathlib.Core.Bool.{Bool, true, false}
+use mathlib.Core.Path.{_≡_, refl, ap, _∙_}
 use native.Mathlib.Omega.{arith}
 use native.Mathlib.Nat.{zero-div}
 use lib.ListN.{length, getD}
@@ -11,13 +10,11 @@ use Rattle.number.specs.declared.Level.{Level}
 use Rattle.number.specs.Blocks.{blocks, blockOf}
 use Rattle.layout.specs.declared.Kind.{Kind}
 use Rattle.layout.specs.Tables.{active}
-use Rattle.layout.specs.Guarantees.{Guarantees}
 use Rattle.layout.proofs.GuaranteeLaws.{guarantees}
 use Rattle.dpfs.specs.declared.Tree.{Tree}
 use Rattle.dpfs.specs.Bits.{bitByte, bitPlace, testBit}
 use Rattle.dpfs.specs.Tree as dpfs
 use Rattle.dpfs.specs.Tree.{place, levelByte, select2, select3}
-use Rattle.dpfs.specs.Rules.{WellPlaced}
 use Rattle.dpfs.proofs.BitLaws.{bit-in-byte}
 use Rattle.dpfs.proofs.LevelLaws.{held2}
 use Rattle.ivfc.specs.declared.View.{View}
@@ -25,12 +22,11 @@ use Rattle.ivfc.specs.Views.{levelOf, innerByte, contentOf}
 use Rattle.ivfc.specs.Views as view
 use Rattle.ivfc.specs.Rules.{ViewRules}
 use Rattle.ivfc.specs.Rows.{digests}
-use Rattle.ivfc.specs.Verified as tree
 use Rattle.ivfc.proofs.VerifiedLaws.{verified-cong}
 use Rattle.views.specs.Places.{committedView, viewIn, treeIn, masterIn, slotOf, partitionOf, partitions}
 use Rattle.views.proofs.PlaceLaws.{committed-rules}
-use Rattle.blank.specs.Sizes.{countAllowed, h1, h2, h3, ivfc1, ivfc2, ivfc3, ivfc4, place4, size2, size3, place2, place3, imageSize}
-use Rattle.blank.specs.Image.{byte1, byte2, byte3, byte4, hashes1, hashes2, hashes3, master, pieces, table, image}
+use Rattle.blank.specs.Sizes.{blocksAllowed, h1, h2, ivfc4, place4, size2, size3}
+use Rattle.blank.specs.Image.{byte1, byte2, byte3, byte4, hashes1, hashes2, hashes3, master, image}
 use Rattle.blank.specs.Making.{someZero, zeroDigest}
 use Rattle.blank_theorem.specs.Theorem.{headerOf, partition, container, Blank}
 use Rattle.blank.proofs.SizeLaws.{Sized, sized, allowed-range}
@@ -142,7 +138,7 @@ module _ (kind : Kind) (n : ℕ) (w : Sized n) where
   }
 
 -- every blank image opens, and all its blocks are verified and zero
-pub blank : (kind : Kind) (n : ℕ) → countAllowed n ≡ true → zeroDigest n ≡ false → Blank kind n
+pub blank : (kind : Kind) (n : ℕ) → blocksAllowed n ≡ true → zeroDigest n ≡ false → Blank kind n
 blank kind n allowed z =
     let r = allowed-range n allowed in
     blank-of kind n (sized n (r .0) (r .1)) (all-none n z)

@@ -5,7 +5,7 @@ use mathlib.Core.List.{List}
 use mathlib.Core.Path.{_≡_}
 use Rattle.layout.specs.declared.Kind.{Kind}
 use Rattle.steps.specs.declared.Ending.the-variants.{Accepted}
-use Rattle.blank.specs.Sizes.{countAllowed, next, bitsFor}
+use Rattle.blank.specs.Sizes.{blocksAllowed, next, bitsFor}
 use Rattle.blank.specs.Image.{image}
 use Rattle.blank.specs.Making.{zeroDigest, made}
 use Rattle.blank_theorem.specs.Theorem.{Blank}
@@ -21,8 +21,8 @@ pub record Rounding : Type 0 where
 pub record BlankTheorem : Type 0 where
   pub rounding : Rounding
   -- of either kind and every n in range, where no digest is all zero
-  pub blank : (kind : Kind) (n : ℕ) → countAllowed n ≡ true → zeroDigest n ≡ false → Blank kind n
-  pub takes : (kind : Kind) (n : ℕ) → countAllowed n ≡ true → zeroDigest n ≡ false → Takes kind n
+  pub blank : (kind : Kind) (n : ℕ) → blocksAllowed n ≡ true → zeroDigest n ≡ false → Blank kind n
+  pub takes : (kind : Kind) (n : ℕ) → blocksAllowed n ≡ true → zeroDigest n ≡ false → Takes kind n
   -- and such an image it is that an accepted call made
   pub makes : (lent : List ℕ) (kind : Kind) (n : ℕ) → made lent kind n .outcome ≡ Accepted
-      → (made lent kind n .image ≡ image kind n) × (countAllowed n ≡ true) × (zeroDigest n ≡ false)
+      → (made lent kind n .image ≡ image kind n) × (blocksAllowed n ≡ true) × (zeroDigest n ≡ false)

@@ -2,8 +2,6 @@
 use Prim.Native.Nat.{ℕ, _*_, _≤_, _<_}
 use mathlib.Core.Bool.{true, false}
 use mathlib.Core.Path.{_≡_}
-use Rattle.number.specs.declared.Range.{Range}
-use Rattle.number.specs.declared.Level.{Level}
 use Rattle.number.specs.Blocks.{blocks}
 use Rattle.layout.specs.declared.Kind.{Kind}
 use Rattle.layout.specs.declared.Slot.{Slot}
@@ -16,9 +14,8 @@ use Rattle.layout.specs.Headers.{noSlot}
 use Rattle.layout.specs.Opening.{opened}
 use Rattle.ivfc.specs.Views.{levelOf, verified, contentOf}
 use Rattle.views.specs.Places.{committedView}
-use Rattle.blank.specs.Sizes.{countAllowed, ivfc1, ivfc2, ivfc3, ivfc4, dpfs2, dpfs3, size1, partitionPlace, partitionSize}
+use Rattle.blank.specs.Sizes.{ivfc1, ivfc2, ivfc3, ivfc4, dpfs2, dpfs3, size1, partitionPlace, partitionSize}
 use Rattle.blank.specs.Image.{secondaryPlace, primaryPlace, tableSize, image}
-use Rattle.blank.specs.Making.{zeroDigest}
 
 -- ---- every field that opening reads
 

@@ -51,7 +51,7 @@ abbrev pub outcomeAnswer : Outcome → ℕ
 outcomeAnswer outcome.Accepted = packed 0 0
 outcomeAnswer (outcome.Refused r) = refusedAnswer r
 
--- a write that is dropped is refusal 17
+-- a call that is dropped is refusal 17
 abbrev pub endingAnswer : Ending → ℕ
 endingAnswer ending.Accepted = packed 0 0
 endingAnswer (ending.Refused r) = refusedAnswer r
@@ -82,13 +82,13 @@ soughtAnswer (sought.File f) = packed 0 f
 soughtAnswer sought.Nothing = packed 0 0
 soughtAnswer (sought.Refused r) = refusedAnswer r
 
--- ---- a session is 257 bytes: 0 for idle and anything else for begun, then the remembered header
+-- ---- a session is 513 bytes: 0 for idle and anything else for begun, then the two headers that it remembers
 
 unfoldable pub sessionOf : List ℕ → Session
-sessionOf bytes = record { begun = not (eqb (getD bytes 0 0) 0); header = take 256 (drop 1 bytes) }
+sessionOf bytes = record { begun = not (eqb (getD bytes 0 0) 0); header = take 256 (drop 1 bytes); later = take 256 (drop 257 bytes) }
 
 unfoldable pub sessionBytes : Session → List ℕ
-sessionBytes session = cond (session .begun) 1 0 ∷ session .header
+sessionBytes session = cond (session .begun) 1 0 ∷ (session .header ++ session .later)
 
 -- a call that is accepted stores the session after it; one that is refused leaves the bytes alone
 abbrev pub sessionLeft : Ending → (before : List ℕ) → Session → List ℕ

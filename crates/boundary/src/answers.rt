@@ -35,7 +35,7 @@ pub fn outcome_answer(outcome: Outcome) -> u64
     }
 }
 
-// A dropped write is refusal 17.
+// A dropped call is refusal 17.
 pub fn ending_answer(ending: Ending) -> u64
     ensures { λ r. ⌜ r ≡ endingAnswer ending ⌝ }
 {

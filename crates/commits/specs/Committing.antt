@@ -1,4 +1,4 @@
--- What a commit stores: the header, whole, and with it the signature where the commit is signed (02, W5).
+-- What a commit, and a revert, stores: the header, whole, and with it the signature where it is signed (02, W5 and W13).
 use Prim.Native.Nat.{ℕ, _-_}
 use mathlib.Core.List.{List}
 use lib.ListN.{set}
@@ -30,3 +30,13 @@ storedSigned image signature header = sets (sets image (signatureRange .offset) 
 -- the signature is that of the new header
 unfoldable pub committedSigned : Container → List ℕ → (key : List ℕ) → Signer → List ℕ
 committedSigned c image key signer = storedSigned image (signature key signer (headerCommitted c image)) (headerCommitted c image)
+
+-- ---- a revert (02: back) restores the header before the last commit
+
+-- no other byte changes
+unfoldable pub revertedImage : List ℕ → (former : List ℕ) → List ℕ
+revertedImage image former = sets image (headerRange .offset) former
+
+-- signed, with the signature of that header
+unfoldable pub revertedSigned : List ℕ → (former key : List ℕ) → Signer → List ℕ
+revertedSigned image former key signer = storedSigned image (signature key signer former) former

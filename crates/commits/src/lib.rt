@@ -1,4 +1,4 @@
-// What a commit stores: the header, whole, and with it the signature where the commit is signed.
+// What a commit, and a revert, stores: the header, whole, and with it the signature where it is signed.
 use layout::Container;
 use layout::HEADER;
 use layout::headers::header_of;
@@ -16,7 +16,7 @@ ghost use lib.ListN.{length};
 ghost use lib.Seq.{sets};
 ghost use Rattle.layout.specs.Headers.{headerRange, headerBytes};
 ghost use Rattle.layout.specs.Guarantees.{Guarantees};
-ghost use Rattle.commits.specs.Committing.{headerCommitted, committedImage, storedSigned, committedSigned};
+ghost use Rattle.commits.specs.Committing.{headerCommitted, committedImage, storedSigned, committedSigned, revertedImage, revertedSigned};
 
 // The former header with the flag flipped and the hash of the staged table.
 fn next_header(former: [u8; 256], image: &[u8], c: Container) -> [u8; 256]
@@ -33,7 +33,7 @@ fn next_header(former: [u8; 256], image: &[u8], c: Container) -> [u8; 256]
     header
 }
 
-// The one store of a commit: the header whole.
+// The one store of a commit, and of a revert: the header whole.
 fn store_header(image: &mut [u8], header: [u8; 256])
     requires { ⌜ 0x200 ≤ length (now image) ⌝ }
     ensures { λ _. ⌜ now (image .exit) ≡ sets (now (image .entry)) (headerRange .offset) header ⌝ }
@@ -51,7 +51,7 @@ pub fn switch_tables(image: &mut [u8], c: Container)
     store_header(image, next);
 }
 
-// The one store of a signed commit: the signature, and the header whole. The bytes between them are left alone.
+// The one store of a signed commit, and of a signed revert: the signature, and the header whole. The bytes between them are left alone.
 fn store_signed(image: &mut [u8], signature: [u8; 16], next: [u8; 256])
     requires { ⌜ 0x200 ≤ length (now image) ⌝ }
     ensures { λ _. ⌜ now (image .exit) ≡ storedSigned (now (image .entry)) signature next ⌝ }
@@ -69,4 +69,21 @@ pub fn switch_signed(image: &mut [u8], c: Container, key: [u8; 16], signer: Sign
     let next = next_header(former, image, c);
     let signature = sign(key, signer, &next);
     store_signed(image, signature, next);
+}
+
+// Restores the header before the last commit.
+pub fn restore(image: &mut [u8], former: [u8; 256])
+    requires { ⌜ 0x200 ≤ length (now image) ⌝ }
+    ensures { λ _. ⌜ now (image .exit) ≡ revertedImage (now (image .entry)) former ⌝ }
+{
+    store_header(image, former);
+}
+
+// The same with the signature of that header.
+pub fn restore_signed(image: &mut [u8], former: [u8; 256], key: [u8; 16], signer: Signer)
+    requires { ⌜ 0x200 ≤ length (now image) ⌝ }
+    ensures { λ _. ⌜ now (image .exit) ≡ revertedSigned (now (image .entry)) former key signer ⌝ }
+{
+    let signature = sign(key, signer, &former);
+    store_signed(image, signature, former);
 }

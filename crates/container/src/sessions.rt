@@ -1,4 +1,6 @@
 // The calls on a session. Whatever session value is handed in, only commit changes a byte that the committed view rests on.
+use commits::restore;
+use commits::restore_signed;
 use commits::switch_signed;
 use commits::switch_tables;
 use layout::Opened;
@@ -14,6 +16,7 @@ use steps::Step;
 use steps::answers::has_partition;
 use steps::answers::refusal_of;
 use steps::beginning::stage_image;
+use steps::reverting::is_revertible;
 use steps::staleness::is_current;
 use steps::writing::idle_session;
 use steps::writing::refused;
@@ -49,6 +52,7 @@ pub fn begin(image: &mut [u8], session: Session) -> Step
         session: Session {
             begun: true,
             header,
+            later: [0u8; 256],
         },
     }
 }
@@ -73,7 +77,7 @@ pub fn write(image: &mut [u8], session: Session, partition: u64, place: u64, byt
     write_partition(image, session, c, partition, place, bytes)
 }
 
-// Makes what is staged the committed one, by one store of the header.
+// Makes what is staged the committed one, by one store of the header, and remembers the headers before and after.
 pub fn commit(image: &mut [u8], session: Session) -> Step
     ensures { λ r. ⌜ Stepped r (now (image .exit)) (calls.commit (now (image .entry)) session) ⌝ }
 {
@@ -87,10 +91,16 @@ pub fn commit(image: &mut [u8], session: Session) -> Step
     if !is_current(image, c, session) {
         return refused(session, Refusal::Stale);
     }
+    let header = header_of(image);
     switch_tables(image, c);
+    let later = header_of(image);
     Step {
         outcome: Ending::Accepted,
-        session: new(),
+        session: Session {
+            begun: false,
+            header,
+            later,
+        },
     }
 }
 
@@ -111,7 +121,64 @@ pub fn commit_signed(image: &mut [u8], session: Session, key: [u8; 16], signer: 
     match judge_signer(image, signer) {
         Outcome::Refused(refusal) => refused(session, refusal),
         Outcome::Accepted => {
+            let header = header_of(image);
             switch_signed(image, c, key, signer);
+            let later = header_of(image);
+            Step {
+                outcome: Ending::Accepted,
+                session: Session {
+                    begun: false,
+                    header,
+                    later,
+                },
+            }
+        }
+    }
+}
+
+// One step back: restores the header before the last commit in this session, by one store.
+pub fn revert(image: &mut [u8], session: Session) -> Step
+    ensures { λ r. ⌜ Stepped r (now (image .exit)) (calls.revert (now (image .entry)) session) ⌝ }
+{
+    let answer = open(image);
+    let Opened::Valid(_c) = answer else {
+        return refused(session, refusal_of(answer));
+    };
+    if session.begun {
+        return refused(session, Refusal::SessionState);
+    }
+    let former = session.header;
+    let later = session.later;
+    if !is_revertible(image, former, later) {
+        return refused(session, Refusal::NothingToRevert);
+    }
+    restore(image, former);
+    Step {
+        outcome: Ending::Accepted,
+        session: new(),
+    }
+}
+
+// The same with a signature: that of the restored header, under a key, is stored with it.
+pub fn revert_signed(image: &mut [u8], session: Session, key: [u8; 16], signer: Signer) -> Step
+    ensures { λ r. ⌜ Stepped r (now (image .exit)) (calls.revertSigned (now (image .entry)) session key signer) ⌝ }
+{
+    let answer = open(image);
+    let Opened::Valid(_c) = answer else {
+        return refused(session, refusal_of(answer));
+    };
+    if session.begun {
+        return refused(session, Refusal::SessionState);
+    }
+    let former = session.header;
+    let later = session.later;
+    if !is_revertible(image, former, later) {
+        return refused(session, Refusal::NothingToRevert);
+    }
+    match judge_signer(image, signer) {
+        Outcome::Refused(refusal) => refused(session, refusal),
+        Outcome::Accepted => {
+            restore_signed(image, former, key, signer);
             Step {
                 outcome: Ending::Accepted,
                 session: new(),

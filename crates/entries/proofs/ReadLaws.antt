@@ -1,11 +1,10 @@
 -- Reading level 4 of a view, against its version. Assumes nothing.
 use mathlib.Core.Path.{_≡_, refl, sym, ap, ap₂, _∙_}
 use mathlib.Core.Bool.{Bool, true, false, cond}
-use mathlib.Core.List.{List, _++_}
-use Prim.Native.Nat.{ℕ, zero, suc, _+_, _-_, _*_, _/_, _^_, _≤_, _<_}
+use mathlib.Core.List.{List}
+use Prim.Native.Nat.{ℕ, suc, _+_, _-_, _/_, _^_, _≤_, _<_}
 use native.Mathlib.Omega.{arith}
 use native.Mathlib.Numerals.{add-one}
-use lib.Dec.{ltb}
 use lib.ListN.{length, getD}
 use Rattle.number.specs.declared.Level.{Level}
 use Rattle.number.specs.Blocks.{blocks, blockOf, blockSize}
@@ -20,9 +19,8 @@ use Rattle.ivfc.specs.Views.{levelOf, contentOf}
 use Rattle.ivfc.specs.Views as ivfc
 use Rattle.ivfc.proofs.LowestLaws.{first-cong}
 use Rattle.ivfc.proofs.ViewLaws.{level-small, block-small}
-use Rattle.views.specs.Versions.{flags, versionOf}
+use Rattle.views.specs.Versions.{versionOf}
 use Rattle.views.proofs.FlagLaws.{getD-flags}
-use Rattle.names.specs.declared.Reach.{Reach}
 use Rattle.names.specs.declared.Reach.the-variants as reach
 use Rattle.names.specs.Entries.{verified, readAt}
 use Rattle.names.specs.Opening.{headerOf}
@@ -78,23 +76,23 @@ word-is view image word at h e =
 
 -- ---- which of its blocks are verified
 
-stands-at : (view : View) (image : List ℕ) (b : ℕ) → b < blocks (view .level4) → ivfc.verified view image 4 b ≡ verified (versionOf view image .verified) b
+vouched-at : (view : View) (image : List ℕ) (b : ℕ) → b < blocks (view .level4) → ivfc.verified view image 4 b ≡ verified (versionOf view image .verified) b
 unfolding versionOf verified
-stands-at view image b h =
+vouched-at view image b h =
     let z : 0 + b ≡ b = omega arith in
     sym (getD-flags (ivfc.verified view image 4) 0 (blocks (view .level4)) b h ∙ ap (ivfc.verified view image 4) z)
 
 -- the first of some blocks that is not verified
 pub first-is : (view : View) (image : List ℕ) (first last : ℕ) → first ≤ last → last < blocks (view .level4)
     → firstNot (ivfc.verified view image 4) first (suc last - first) ≡ firstNot (verified (versionOf view image .verified)) first (suc last - first)
-first-is view image first last o h = first-cong _ _ first (suc last - first) (λ a f k. stands-at view image a (omega arith))
+first-is view image first last o h = first-cong _ _ first (suc last - first) (λ a f k. vouched-at view image a (omega arith))
 
 -- the blocks that some bytes of level 4 touch
 pub touched : (l : Level) (at n : ℕ) → 1 ≤ n → at + n ≤ l .size → (blockOf l at ≤ blockOf l (at + (n - 1))) × (blockOf l (at + (n - 1)) < blocks l)
 touched l at n o h = (block-mono l at (at + (n - 1)) (omega arith), block-exists l (at + (n - 1)) (omega arith))
 
 module _ (view : View) (image : List ℕ) (at n first last b : ℕ) (o : 1 ≤ n) (h : at + n ≤ view .level4 .size) (f : first ≡ blockOf (view .level4) at)
-  (l : last ≡ blockOf (view .level4) (at + (n - 1))) (e : b ≡ firstNot (ivfc.verified view image 4) first (suc last - first)) where
+    (l : last ≡ blockOf (view .level4) (at + (n - 1))) (e : b ≡ firstNot (ivfc.verified view image 4) first (suc last - first)) where
   ends : last ≡ (at + n - 1) / 2 ^ view .level4 .log
   unfolding blockOf blockSize
   ends = let s : at + (n - 1) ≡ at + n - 1 = omega arith in l ∙ ap (λ (x : ℕ). x / 2 ^ view .level4 .log) s

@@ -33,7 +33,7 @@ fn add_mark(known: &mut [u8], mark: u64)
 
 // Whether a block of a level is verified, by ivfc's own recursion. What is known to be verified is not hashed again, and what is found to be is known
 // from then on.
-pub fn stands(view: View, image: &[u8], known: &mut [u8], i: u64, b: u64) -> bool
+pub fn vouched(view: View, image: &[u8], known: &mut [u8], i: u64, b: u64) -> bool
     requires { ⌜ (Legible view (now image) (now known)) × (i ≤ 4) × (b < blocks (levelOf view i)) ⌝ }
     ensures { λ r. ⌜ (r ≡ verified view (now (image .entry)) i b) × (Knows view (now (image .entry)) (now (known .exit))) ⌝ }
 {
@@ -48,7 +48,7 @@ pub fn stands(view: View, image: &[u8], known: &mut [u8], i: u64, b: u64) -> boo
         return false;
     }
     let upper = parent_of(level_of(view, i - 1), b);
-    if !stands(view, image, known, i - 1, upper) {
+    if !vouched(view, image, known, i - 1, upper) {
         return false;
     }
     add_mark(known, mark);

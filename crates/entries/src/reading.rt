@@ -1,5 +1,5 @@
 // Reading level 4 of a view: the blocks that some bytes touch are judged, and words are taken.
-use super::knowing::stands;
+use super::knowing::vouched;
 use ivfc::View;
 use ivfc::gathering::gather;
 use names::Reach;
@@ -29,7 +29,7 @@ fn first_unknown(view: View, image: &[u8], known: &mut [u8], first: u64, last: u
 {
     let mut b = first;
     while b <= last {
-        if !stands(view, image, known, 4, b) {
+        if !vouched(view, image, known, 4, b) {
             return b;
         }
         b += 1;

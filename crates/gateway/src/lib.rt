@@ -87,7 +87,7 @@ pub extern "C" fn teplovist_read_committed(
 #[no_mangle]
 pub extern "C" fn teplovist_read_staged(
     image: &[u8],
-    session: &[u8; 257],
+    session: &[u8; 513],
     partition: u64,
     place: u64,
     buffer: &mut [u8],
@@ -125,7 +125,7 @@ pub extern "C" fn teplovist_faults(image: &[u8], row: &mut [Fault]) -> u64
 
 // Starts a session.
 #[no_mangle]
-pub extern "C" fn teplovist_begin(image: &mut [u8], session: &mut [u8; 257]) -> u64
+pub extern "C" fn teplovist_begin(image: &mut [u8], session: &mut [u8; 513]) -> u64
     ensures { λ r. ⌜ Called sessionLeft r (now (image .exit)) (now (session .entry)) (now (session .exit)) (calls.begin (now (image .entry)) (sessionOf (now (session .entry)))) ⌝ }
 {
     let before = *session;
@@ -139,7 +139,7 @@ pub extern "C" fn teplovist_begin(image: &mut [u8], session: &mut [u8; 257]) -> 
 #[no_mangle]
 pub extern "C" fn teplovist_write(
     image: &mut [u8],
-    session: &mut [u8; 257],
+    session: &mut [u8; 513],
     partition: u64,
     place: u64,
     bytes: &[u8],
@@ -155,7 +155,7 @@ pub extern "C" fn teplovist_write(
 
 // Makes what is staged the committed one.
 #[no_mangle]
-pub extern "C" fn teplovist_commit(image: &mut [u8], session: &mut [u8; 257]) -> u64
+pub extern "C" fn teplovist_commit(image: &mut [u8], session: &mut [u8; 513]) -> u64
     ensures { λ r. ⌜ Called sessionLeft r (now (image .exit)) (now (session .entry)) (now (session .exit)) (calls.commit (now (image .entry)) (sessionOf (now (session .entry)))) ⌝ }
 {
     let before = *session;
@@ -169,7 +169,7 @@ pub extern "C" fn teplovist_commit(image: &mut [u8], session: &mut [u8; 257]) ->
 #[no_mangle]
 pub extern "C" fn teplovist_commit_signed(
     image: &mut [u8],
-    session: &mut [u8; 257],
+    session: &mut [u8; 513],
     key: &[u8; 16],
     signer: &[u64; 4],
 ) -> u64
@@ -189,9 +189,40 @@ pub extern "C" fn teplovist_commit_signed(
     ending_answer(outcome)
 }
 
+// One step back: restores the header before the last commit in this session.
+#[no_mangle]
+pub extern "C" fn teplovist_revert(image: &mut [u8], session: &mut [u8; 513]) -> u64
+    ensures { λ r. ⌜ Called sessionLeft r (now (image .exit)) (now (session .entry)) (now (session .exit)) (calls.revert (now (image .entry)) (sessionOf (now (session .entry)))) ⌝ }
+{
+    let before = *session;
+    let reverted = sessions::revert(image, session_of(before));
+    *session = session_left(reverted, before);
+    let outcome = reverted.outcome;
+    ending_answer(outcome)
+}
+
+// The same with the signature of that header, under a key.
+#[no_mangle]
+pub extern "C" fn teplovist_revert_signed(
+    image: &mut [u8],
+    session: &mut [u8; 513],
+    key: &[u8; 16],
+    signer: &[u64; 4],
+) -> u64
+    ensures { λ r. ⌜ Called sessionLeft r (now (image .exit)) (now (session .entry)) (now (session .exit)) (calls.revertSigned (now (image .entry)) (sessionOf (now (session .entry))) (now (key .entry)) (signerOf (now (signer .entry)))) ⌝ }
+{
+    let before = *session;
+    let secret = *key;
+    let signed_as = *signer;
+    let reverted = sessions::revert_signed(image, session_of(before), secret, signer_of(signed_as));
+    *session = session_left(reverted, before);
+    let outcome = reverted.outcome;
+    ending_answer(outcome)
+}
+
 // Ends a session without a look at the image.
 #[no_mangle]
-pub extern "C" fn teplovist_abandon(session: &mut [u8; 257]) -> u64
+pub extern "C" fn teplovist_abandon(session: &mut [u8; 513]) -> u64
     ensures { λ r. ⌜ (r ≡ endingAnswer (calls.abandon (sessionOf (now (session .entry))) .outcome)) × (now (session .exit) ≡ sessionLeft (calls.abandon (sessionOf (now (session .entry))) .outcome) (now (session .entry)) (calls.abandon (sessionOf (now (session .entry))) .session)) ⌝ }
 {
     let before = *session;

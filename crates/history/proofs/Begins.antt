@@ -28,7 +28,7 @@ use Rattle.dpfs.proofs.BeginLaws.{begun-keeps, begun-staged}
 use Rattle.views.specs.Places.{partitions, slotOf, partitionOf, treeOf, masterIn, viewIn, committedView, stagedView, spaceOf}
 use Rattle.views.proofs.PlaceLaws.{first-there, second-there, third-missing, active-table, inactive-table, tree-rules, staged-rules, space-rules, tree-among}
 use Rattle.steps.specs.Sessions.{inSomeMaster, stagedTable, tableBegun, begunImage, tableStaged}
-use Rattle.history.specs.Theorem.{Left}
+use Rattle.history.specs.Former.{Left}
 use Rattle.history.proofs.CallLaws.{BeginLaws}
 use Rattle.history.proofs.Seen.{SameSeen, same-version}
 use Rattle.history.proofs.Frames.{outside-stays, staged-stays}

@@ -11,12 +11,12 @@ use Rattle.layout.specs.declared.Container.{Container}
 use Rattle.layout.specs.declared.Opened.{Opened}
 use Rattle.layout.specs.declared.Opened.the-variants as opening
 use Rattle.layout.specs.declared.Refusal.{Refusal}
-use Rattle.layout.specs.declared.Refusal.the-variants.{NoPartition, OutOfRange, ExternalLevel, SessionState, Stale}
+use Rattle.layout.specs.declared.Refusal.the-variants.{NoPartition, OutOfRange, SessionState, Stale}
 use Rattle.layout.specs.Headers.{headerBytes}
 use Rattle.layout.specs.Opening.{opened}
 use Rattle.ivfc.specs.declared.View.{View}
 use Rattle.update.specs.Staged.{writtenTo, holdsZero}
-use Rattle.views.specs.Places.{partitions, partitionOf, viewIn, stagedView}
+use Rattle.views.specs.Places.{partitions, stagedView}
 use Rattle.layout.specs.declared.Outcome.{Outcome}
 use Rattle.layout.specs.declared.Outcome.the-variants as outcome
 use Rattle.steps.specs.declared.Verdict.{Verdict}
@@ -34,14 +34,14 @@ use Rattle.steps.specs.declared.Ending.{Ending}
 use Rattle.steps.specs.declared.Ending.the-variants as ending
 use Rattle.steps.specs.declared.Session.{Session}
 use Rattle.steps.specs.Reading.{refuseOutside}
-use Rattle.steps.specs.Sessions.{idle, begunImage, current, writeOutcome}
+use Rattle.steps.specs.Sessions.{idle, begunWith, begunImage, current, writeOutcome}
 use Rattle.signing.specs.declared.Signer.{Signer}
 use Rattle.signing.specs.declared.Built.{Built}
 use Rattle.signing.specs.declared.Built.the-variants as built
 use Rattle.signing.specs.Calls.{Answer, Signs, signed, builtAs, outcomeOf, blockLeft}
 use Rattle.signing.specs.Calls as signing
 use Rattle.commits.specs.Committing.{committedImage, committedSigned}
-use Rattle.steps.specs.Calls.{After, unchanged, done, finished, leaving, readCommitted, readStaged, isVerified, countVerified, begin, beginIn, inSession, writeTo, writeOn, write, commitOn, commit, commitBy, commitSigned, abandon, Abandoned}
+use Rattle.steps.specs.Calls.{After, unchanged, done, finished, leaving, readCommitted, readStaged, isVerified, countVerified, begin, beginIn, inSession, writeTo, writeOn, write, commitOn, commit, commitBy, commitSigned, abandon, Abandoned, landed}
 use Rattle.history.specs.Model.{Form, Plain, Signed, Query, Open, ReadCommitted, ReadStaged, IsVerified, CountVerified, ListFaults, SigningBlock, SigningDigest, ListNames, FindFile, Call, Ask, Begin, Write, Commit, Abandon, Opening, Judging, Counting, Listing, Building, Finding, Ruling, Accepted, Refused, Dropped, rulingOf, endingOf, namesRuling, ruling}
 use Rattle.history.specs.Run.{State, openedAs, committedAs, reply, perform, ruled, next}
 
@@ -71,17 +71,17 @@ write-fits view image place n e = leb-true (place + n) (view .level4 .size) (pas
 
 -- ---- a refused call changes nothing
 
-abbrev left : After → State
+abbrev pub left : After → State
 left a = record { image = a .image; session = a .session }
 
-abbrev Kept : State → After → Type 0
+abbrev pub Kept : State → After → Type 0
 Kept st a = endingOf (a .outcome) ≡ Refused → left a ≡ st
 
-kept-cond : (t : Bool) (st : State) (a b : After) → Kept st a → Kept st b → Kept st (cond t a b)
+pub kept-cond : (t : Bool) (st : State) (a b : After) → Kept st a → Kept st b → Kept st (cond t a b)
 kept-cond true st a b p q = p
 kept-cond false st a b p q = q
 
-kept-done : (st : State) (image : List ℕ) (session : Session) → Kept st (done image session)
+pub kept-done : (st : State) (image : List ℕ) (session : Session) → Kept st (done image session)
 kept-done st image session e = not-both refl e
 
 -- a write that is finished was not refused
@@ -98,7 +98,7 @@ kept-begin : (st : State) (o : Opened) → Kept st (beginIn (st .image) (st .ses
 kept-begin st (opening.Refused r) = λ e. refl
 kept-begin st (opening.Valid c) =
     kept-cond (st .session .begun) st (unchanged (st .image) (st .session) SessionState)
-    (done (begunImage c (st .image)) (record { begun = true; header = headerBytes (st .image) })) (λ e. refl) (kept-done st _ _)
+    (done (begunImage c (st .image)) (begunWith (headerBytes (st .image)))) (λ e. refl) (kept-done st _ _)
 
 -- the calls of a begun session
 kept-session : (st : State) (next : Container → After) → ((c : Container) → Kept st (next c)) → (o : Opened) → Kept st (inSession (st .image) (st .session) next o)
@@ -109,8 +109,7 @@ kept-session st next k (opening.Valid c) =
 kept-write : (st : State) (q place : ℕ) (bytes : List ℕ) (c : Container) → Kept st (writeOn (st .image) (st .session) q place bytes c)
 kept-write st q place bytes c =
     kept-cond (ltb q (partitions c)) st _ _
-    (kept-cond (stagedView c q .external) st _ _ (λ e. refl)
-    (kept-leaving st (writeOutcome (stagedView c q) (st .image) place (length bytes)) _ (kept-finished st (stagedView c q) place bytes (st .session) _)))
+    (kept-leaving st (writeOutcome (stagedView c q) (st .image) place (length bytes)) _ (kept-finished st (stagedView c q) place bytes (st .session) _))
     (λ e. refl)
 
 -- what a commit of either form does once its session may go on
@@ -124,11 +123,11 @@ commit-is Plain st = refl
 commit-is (Signed key signer) st = refl
 
 kept-commit : (form : Form) (st : State) (c : Container) → Kept st (commitNext form st c)
-kept-commit Plain st c = kept-done st (committedImage c (st .image)) idle
+kept-commit Plain st c = kept-done st _ _
 kept-commit (Signed key signer) st c = by (signed (st .image) signer)
   where
     by : (a : Answer) → Kept st (commitBy (st .image) (st .session) key signer a c)
-    by (Signs block) = kept-done st (committedSigned c (st .image) key signer) idle
+    by (Signs block) = kept-done st _ _
     by (signing.Refused r) = λ e. refl
 
 pub refused : (c : Call) (st : State) → ruled c st ≡ Refused → next c st ≡ st
@@ -148,10 +147,10 @@ refused Abandon st e = by (st .session .begun) e
 
 -- ---- only a write is dropped
 
-abbrev Lasts : After → Type 0
+abbrev pub Lasts : After → Type 0
 Lasts a = endingOf (a .outcome) ≡ Dropped → ⊥
 
-lasts-cond : (t : Bool) (a b : After) → Lasts a → Lasts b → Lasts (cond t a b)
+pub lasts-cond : (t : Bool) (a b : After) → Lasts a → Lasts b → Lasts (cond t a b)
 lasts-cond true a b p q = p
 lasts-cond false a b p q = q
 
@@ -266,12 +265,12 @@ idles Abandon st n i = rw i
 -- ---- what a call was that was not refused
 
 -- by a test on the way of a call that was not refused
-went : (t : Bool) (a b : After) → endingOf (b .outcome) ≡ Refused → (endingOf (cond t a b .outcome) ≡ Refused → ⊥)
+pub went : (t : Bool) (a b : After) → endingOf (b .outcome) ≡ Refused → (endingOf (cond t a b .outcome) ≡ Refused → ⊥)
     → (t ≡ true) × (cond t a b ≡ a) × (endingOf (a .outcome) ≡ Refused → ⊥)
 went true a b r e = (refl, refl, e)
 went false a b r e = absurd (e r)
 
-went-not : (t : Bool) (a b : After) → endingOf (a .outcome) ≡ Refused → (endingOf (cond t a b .outcome) ≡ Refused → ⊥)
+pub went-not : (t : Bool) (a b : After) → endingOf (a .outcome) ≡ Refused → (endingOf (cond t a b .outcome) ≡ Refused → ⊥)
     → (t ≡ false) × (cond t a b ≡ b) × (endingOf (b .outcome) ≡ Refused → ⊥)
 went-not true a b r e = absurd (e r)
 went-not false a b r e = (refl, refl, e)
@@ -298,13 +297,13 @@ drop-zero false after session e = not-taken e refl
 module _ (image : List ℕ) (session : Session) (c : Container) (o : opened image ≡ opening.Valid c) where
   pub record Begun : Type 0 where
     pub idle : session .begun ≡ false
-    pub after : begin image session ≡ done (begunImage c image) (record { begun = true; header = headerBytes image })
+    pub after : begin image session ≡ done (begunImage c image) (begunWith (headerBytes image))
 
   pub begun-by : endingOf (begin image session .outcome) ≡ Accepted → Begun
   unfolding begin
   begun-by e =
       let t = went-not (session .begun) (unchanged image session SessionState)
-      (done (begunImage c image) (record { begun = true; header = headerBytes image })) refl
+      (done (begunImage c image) (begunWith (headerBytes image))) refl
       (λ r. not-both (subst (λ (x : Opened). endingOf (beginIn image session x .outcome) ≡ Accepted) o e) r) in
       record { idle = t .0; after = ap (beginIn image session) o ∙ t .1 }
 
@@ -332,28 +331,24 @@ module _ (image : List ℕ) (session : Session) (c : Container) (o : opened imag
     pub begun : session .begun ≡ true
     pub current : current c image session ≡ true
     pub there : q < partitions c
-    pub internal : partitionOf c q .difi .external ≡ false
     pub allowed : writeOutcome (stagedView c q) image place (length bytes) ≡ outcome.Accepted
     pub made : write image session q place bytes ≡ finished (stagedView c q) place bytes session (writtenTo (stagedView c q) place bytes image)
 
   pub finished-by : (q place : ℕ) (bytes : List ℕ) → (endingOf (write image session q place bytes .outcome) ≡ Refused → ⊥) → Finished q place bytes
-  unfolding write stagedView viewIn
+  unfolding write
   finished-by q place bytes e =
       let v = stagedView c q in
       let r = reached-by (writeOn image session q place bytes) e in
       let f = finished v place bytes session (writtenTo v place bytes image) in
       let d = leaving (writeOutcome v image place (length bytes)) image session f in
-      let d4 = cond (v .external) (unchanged image session ExternalLevel) d in
-      let t3 = went (ltb q (partitions c)) d4 (unchanged image session NoPartition) refl (r .unrefused) in
-      let t4 = went-not (v .external) (unchanged image session ExternalLevel) d refl (t3 .2) in
-      let t5 = took-leaving (writeOutcome v image place (length bytes)) image session f (t4 .2) in
+      let t3 = went (ltb q (partitions c)) d (unchanged image session NoPartition) refl (r .unrefused) in
+      let t4 = took-leaving (writeOutcome v image place (length bytes)) image session f (t3 .2) in
       record {
         begun = r .begun;
         current = r .current;
         there = ltb-true q (partitions c) (t3 .0);
-        internal = t4 .0;
-        allowed = t5 .0;
-        made = r .after ∙ t3 .1 ∙ t4 .1 ∙ t5 .1;
+        allowed = t4 .0;
+        made = r .after ∙ t3 .1 ∙ t4 .1;
       }
 
   -- accepted, it holds no digest that is all zero
@@ -392,12 +387,12 @@ landedImage (Signed key signer) c image = committedSigned c image key signer
 pub record Committed (form : Form) (st : State) (c : Container) : Type 0 where
   pub begun : st .session .begun ≡ true
   pub current : current c (st .image) (st .session) ≡ true
-  pub after : committedAs form st ≡ done (landedImage form c (st .image)) idle
+  pub after : committedAs form st ≡ landed (st .image) (landedImage form c (st .image))
 
 -- a signed commit that is accepted has its block
 took-signed : (image : List ℕ) (session : Session) (key : List ℕ) (signer : Signer) (c : Container) (a : Answer)
     → endingOf (commitBy image session key signer a c .outcome) ≡ Accepted
-    → commitBy image session key signer a c ≡ done (committedSigned c image key signer) idle
+    → commitBy image session key signer a c ≡ landed image (committedSigned c image key signer)
 took-signed image session key signer c (Signs block) e = refl
 took-signed image session key signer c (signing.Refused r) e = not-both e refl
 
@@ -408,7 +403,7 @@ committed-by form st c o e =
     let r = reached-by (st .image) (st .session) c o (commitNext form st) (λ n. not-both a n) in
     record { begun = r .begun; current = r .current; after = commit-is form st ∙ r .after ∙ lands form (taken (st .image) (st .session) c o (commitNext form st) r a) }
   where
-    lands : (f : Form) → endingOf (commitNext f st c .outcome) ≡ Accepted → commitNext f st c ≡ done (landedImage f c (st .image)) idle
+    lands : (f : Form) → endingOf (commitNext f st c .outcome) ≡ Accepted → commitNext f st c ≡ landed (st .image) (landedImage f c (st .image))
     lands Plain a = refl
     lands (Signed key signer) a = took-signed (st .image) (st .session) key signer c (signed (st .image) signer) a
 
@@ -473,4 +468,4 @@ pub idle-after : (form : Form) (st : State) → ruled (Commit form) st ≡ Accep
 unfolding perform
 idle-after form st e =
     let (c, o) = opens-first form st e in
-    ap (λ (a : After). a .session .begun) (committed-by form st c o e .after) ∙ idle-rests
+    ap (λ (a : After). a .session .begun) (committed-by form st c o e .after)

@@ -8,29 +8,24 @@ use Rattle.layout.specs.declared.Container.{Container}
 use Rattle.layout.specs.declared.Opened.the-variants as opening
 use Rattle.layout.specs.Headers.{headerBytes}
 use Rattle.layout.specs.Opening.{opened}
-use Rattle.number.specs.Ranges.{part}
-use Rattle.signatures.specs.Signatures.{signatureRange}
 use Rattle.dpfs.specs.Free.{Free}
 use Rattle.update.specs.Staged.{writtenTo, holdsZero}
 use Rattle.views.specs.Places.{partitions, partitionOf, committedView, stagedView, spaceOf}
 use Rattle.layout.specs.declared.Outcome.the-variants as outcome
 use Rattle.steps.specs.Sessions.{begunImage, tableStaged, writeOutcome}
 use Rattle.commits.specs.Committing.{headerCommitted}
-use Rattle.faults.specs.Faults.{faultsOf}
 use Rattle.history.specs.Model.{laidOver, Form}
 use Rattle.views.specs.Versions.{versionOf}
-use Rattle.history.specs.Theorem.{Left}
+use Rattle.history.specs.External.{InPlace, LeftBut}
+use Rattle.history.specs.Former.{Left}
 use Rattle.history.proofs.CallCases.{landedImage}
 
--- an image that differs from another in free bytes only opens alike, has the same header, signature, committed views and faults, and no more
--- free bytes
+-- an image that differs from another in free bytes only opens alike, has the same header and committed views, and no more free bytes
 pub record FrameLaws (c : Container) (image left : List ℕ) : Type 0 where
   pub opens : opened left ≡ opening.Valid c
   pub header : headerBytes left ≡ headerBytes image
-  pub front : part left signatureRange ≡ part image signatureRange
   pub free : (i : ℕ) → Free (spaceOf c) left i → Free (spaceOf c) image i
   pub version : (q : ℕ) → q < partitions c → versionOf (committedView c q) left ≡ versionOf (committedView c q) image
-  pub faults : faultsOf c left ≡ faultsOf c image
 
 -- begin stores to free bytes, stages the table, and what it stages is what is committed
 pub record BeginLaws (c : Container) (image : List ℕ) : Type 0 where
@@ -38,10 +33,10 @@ pub record BeginLaws (c : Container) (image : List ℕ) : Type 0 where
   pub table : tableStaged c (begunImage c image) ≡ true
   pub version : (q : ℕ) → q < partitions c → versionOf (stagedView c q) (begunImage c image) ≡ versionOf (committedView c q) image
 
--- a write to partition q, left as `after`, stores to free bytes, leaves a staged table staged, lays its bytes over q's staged version and
--- leaves the other partition's alone
+-- a write to partition q, left as `after`, stores to free bytes and, in place, to its own, leaves a staged table staged, lays its bytes over q's
+-- staged version and leaves the other partition's alone
 pub record WriteLaws (c : Container) (q place : ℕ) (bytes image after : List ℕ) : Type 0 where
-  pub stores : Left c image after
+  pub stores : LeftBut (InPlace c q place (length bytes)) c image after
   pub table : tableStaged c image ≡ true → tableStaged c after ≡ true
   pub version : holdsZero (stagedView c q) place bytes after ≡ false → versionOf (stagedView c q) after ≡ laidOver place bytes (versionOf (stagedView c q) image)
   pub others : (p : ℕ) → p < partitions c → (q ≡ p → ⊥) → versionOf (stagedView c p) after ≡ versionOf (stagedView c p) image
@@ -65,7 +60,7 @@ pub record CallLaws : Type 0 where
   pub frame : (image left : List ℕ) (c : Container) → opened image ≡ opening.Valid c → Left c image left → FrameLaws c image left
   pub begin : (image : List ℕ) (c : Container) → opened image ≡ opening.Valid c → BeginLaws c image
   pub write : (image : List ℕ) (c : Container) → opened image ≡ opening.Valid c → (q place : ℕ) (bytes : List ℕ) → q < partitions c
-      → partitionOf c q .difi .external ≡ false → writeOutcome (stagedView c q) image place (length bytes) ≡ outcome.Accepted
+      → writeOutcome (stagedView c q) image place (length bytes) ≡ outcome.Accepted
       → WriteLaws c q place bytes image (writtenTo (stagedView c q) place bytes image)
   pub commit : (image : List ℕ) (c : Container) → opened image ≡ opening.Valid c → tableStaged c image ≡ true
       → (after : List ℕ) → Headed c image after → CommitLaws c image after

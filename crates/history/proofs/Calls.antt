@@ -11,7 +11,7 @@ pub call-laws : CallLaws
 call-laws = record {
   frame = framed;
   begin = begins;
-  write = λ image c o q place bytes there internal ok. writes image c o q place bytes there internal ok;
+  write = λ image c o q place bytes there ok. writes image c o q place bytes there ok;
   commit = commits;
   units = λ image c o. headed image c (guarantees image c o);
 }

@@ -8,7 +8,6 @@ use Prim.Native.Nat.{ℕ, zero, suc, _+_, _-_, _≤_, _<_}
 use native.Mathlib.Omega.{arith}
 use native.Mathlib.Decide.{decLt}
 use lib.ListN.{length, getD}
-use lib.Seq.{length-sets, ext-getD}
 use lib.Dec.{eqb}
 use borrow.Author.Tests.{eqb-true}
 use Rattle.number.specs.declared.Level.{Level}
@@ -16,8 +15,7 @@ use Rattle.number.specs.declared.Range.{Range}
 use Rattle.number.specs.Ranges.{part}
 use Rattle.number.specs.Bytes.{Outside, sameBytes}
 use Rattle.number.specs.Frame.{Keeps}
-use Rattle.number.proofs.FrameLaws.{keeps-sets}
-use Rattle.number.proofs.ListLaws.{sets-in, sets-out, part-same, same-refl}
+use Rattle.number.proofs.ListLaws.{part-same, same-refl}
 use Rattle.sha256.specs.Sha256.{sha256}
 use Rattle.sha256.proofs.Laws.{length-sha256}
 use Rattle.layout.specs.declared.Container.{Container}
@@ -48,7 +46,7 @@ use Rattle.commits.specs.Committing.{headerCommitted}
 use Rattle.views.specs.Versions.{versionOf}
 use Rattle.history.proofs.CallLaws.{Headed, CommitLaws}
 use Rattle.history.proofs.Seen.{SameSeen, same-version}
-use Rattle.history.proofs.Flips.{partitionFlipped, Restaged, flipped-judged, headerFlipped, reheaded-size, reheaded-hash, flipped-header}
+use Rattle.history.proofs.Flips.{partitionFlipped, Restaged, flipped-judged, headerFlipped, reheaded-hash, flipped-header}
 use Rattle.history.proofs.Tables.{length-of, byte-of, place-of, off-masters, off-selectors, active-bytes, staged-other, staged-own, not-in-master, staged-byte}
 
 -- the container that is opened afterwards: the flag and each partition's selector are flipped
@@ -221,7 +219,7 @@ module _ (image : List ℕ) (c : Container) (o : opened image ≡ opening.Valid 
       by Missing e k = k
       by (There b) e (two, k) = (two, second-flipped b e two k)
 
-  after-opens : opened after ≡ opening.Valid (switched c)
+  pub after-opens : opened after ≡ opening.Valid (switched c)
   after-opens =
       let t : part after (active (headerFlipped (c .header))) ≡ S = ap (part after) table-flipped ∙ after-table in
       opens after (switched c) (record {

@@ -3,34 +3,41 @@ use mathlib.Core.Path.{_≡_, refl, sym, ap, _∙_, subst}
 use mathlib.Core.Bool.{Bool, true, false, cond}
 use mathlib.Core.List.{List, [], _∷_}
 use mathlib.Core.Option.{Option, none, some, Option·map, Option·getD}
-use Prim.Native.Nat.{ℕ}
+use Prim.Native.Nat.{ℕ, _<_}
 use native.Mathlib.Omega.{arith}
+use lib.ListN.{length}
 use lib.Dec.{eqb}
 use borrow.Author.Tests.{eqb-true, eqb-false}
 use Rattle.number.specs.Bytes.{sameBytes}
 use Rattle.number.proofs.Tests.{and-left, and-right, and-both}
 use Rattle.number.proofs.ListLaws.{same-refl}
 use Rattle.layout.specs.declared.Container.{Container}
+use Rattle.layout.specs.declared.Opened.the-variants as opening
 use Rattle.layout.specs.Headers.{headerBytes}
 use Rattle.update.specs.Staged.{writtenTo, holdsZero}
-use Rattle.views.specs.Places.{stagedView, committedView}
+use Rattle.views.specs.Places.{stagedView, committedView, partitions, partitionOf}
+use Rattle.layout.specs.Opening.{opened}
+use Rattle.layout.proofs.GuaranteeLaws.{guarantees}
 use Rattle.steps.specs.declared.Count.the-variants as count
 use Rattle.steps.specs.declared.Session.{Session}
-use Rattle.steps.specs.Sessions.{idle, begunImage, current, tableStaged}
+use Rattle.steps.specs.Sessions.{begunWith, remembering, begunImage, current, tableStaged}
 use Rattle.steps.specs.Calls.{After, readCommitted, readStaged, isVerified, countVerified}
 use Rattle.faults.specs.Faults.{kept, faults}
 use Rattle.faults.specs.Laws.{ofLevel}
 use Rattle.history.specs.Model.{laidOver, Form, Query, Open, ReadCommitted, ReadStaged, IsVerified, CountVerified, ListFaults, SigningBlock, SigningDigest, Call, Ask, Begin, Write, Commit, Abandon, Answer, Reading, Judging, Counting, Ruling, Accepted, Refused, Dropped, Model, advance, followed, readOf, readStagedOf, judgedOf, countTrue, says, unverified, ListNames, FindFile}
 use Rattle.views.specs.Versions.{Version, versionOf}
 use Rattle.history.specs.Run.{State, reply, perform, ruled, next, after, events}
-use Rattle.history.specs.Theorem.{Has, Start, committedIn, stagedIn, Follows, History, Left}
+use Rattle.history.specs.Theorem.{Has, Start, committedIn, stagedIn, Follows, History}
 use Rattle.save.specs.Calls.{holdsSave, namesOf, fileOf}
 use Rattle.save.proofs.CallLaws.{holds-one}
+use Rattle.history.specs.External.{InPlace, LeftBut}
 use Rattle.history.proofs.VersionLaws.{never}
 use Rattle.history.proofs.ReadLaws.{read-committed, read-staged, read-idle, judged, counted, faulty-version}
 use Rattle.history.proofs.CallCases.{landedImage, not-both, refused, idles, begun-by, written-by, committed-by, abandoned-by, idle-rests, ended-by, lasts}
 use Rattle.history.proofs.NameLaws.{names-there, file-there}
-use Rattle.history.proofs.CallLaws.{FrameLaws, WriteLaws, CommitLaws, CallLaws}
+use Rattle.history.specs.Former.{Left}
+use Rattle.history.proofs.CallLaws.{WriteLaws, CommitLaws, CallLaws}
+use Rattle.history.proofs.Outers.{place-outer, still-opens, header-stays, internal-stays}
 
 -- what is kept from call to call: also whether the session is begun, and that it may go on
 abbrev pub Tracks : {image : List ℕ} {p : ℕ} → Has image p → Session → Option Version → Type 0
@@ -51,7 +58,7 @@ own q p x a e = by (eqb q p) refl e
     by false u e = never e
 
 -- the session goes on where the header is the same and the table is staged
-goes-on : (c : Container) (image image' : List ℕ) (session : Session) → headerBytes image' ≡ headerBytes image
+pub goes-on : (c : Container) (image image' : List ℕ) (session : Session) → headerBytes image' ≡ headerBytes image
     → (tableStaged c image ≡ true → tableStaged c image' ≡ true) → current c image session ≡ true → current c image' session ≡ true
 unfolding current
 goes-on c image image' session h t k =
@@ -63,12 +70,31 @@ pub staged-table : (c : Container) (image : List ℕ) (session : Session) → cu
 unfolding current
 staged-table c image session k = and-right (sameBytes (headerBytes image) (session .header)) (tableStaged c image) k
 
-fresh : (c : Container) (image image' : List ℕ) → headerBytes image' ≡ headerBytes image → tableStaged c image' ≡ true
-    → current c image' (record { begun = true; header = headerBytes image }) ≡ true
+pub fresh : (c : Container) (image image' : List ℕ) → headerBytes image' ≡ headerBytes image → tableStaged c image' ≡ true
+    → current c image' (begunWith (headerBytes image)) ≡ true
 unfolding current
 fresh c image image' h t =
     and-both (sameBytes (headerBytes image') (headerBytes image)) (tableStaged c image')
     (ap (λ (x : List ℕ). sameBytes x (headerBytes image)) h ∙ same-refl (headerBytes image)) t
+
+-- what an image that a write left has in common with the one before, for an internal partition p
+pub record FrameAt (c : Container) (p : ℕ) (image left : List ℕ) : Type 0 where
+  pub opens : opened left ≡ opening.Valid c
+  pub header : headerBytes left ≡ headerBytes image
+  pub version : versionOf (committedView c p) left ≡ versionOf (committedView c p) image
+
+frame-at : (image left : List ℕ) (c : Container) → opened image ≡ opening.Valid c → (q place n : ℕ) → LeftBut (InPlace c q place n) c image left
+    → (p : ℕ) → p < partitions c → partitionOf c p .difi .external ≡ false → FrameAt c p image left
+frame-at image left c o q place n k p h e =
+    let g = guarantees image c o in
+    record {
+      opens = still-opens image left c g (InPlace c q place n) (place-outer c q place n) k o;
+      header = header-stays image left c g (InPlace c q place n) (place-outer c q place n) k;
+      version = internal-stays image left c g (InPlace c q place n) (place-outer c q place n) k p h e;
+    }
+
+abbrev has-at : {image left : List ℕ} {p : ℕ} (h : Has image p) → FrameAt (h .container) p image left → Has left p
+has-at h f = record { container = h .container; opens = f .opens; there = h .there; internal = h .internal }
 
 module _ (W : CallLaws) where
   abbrev pub has-left : {image left : List ℕ} {p : ℕ} (h : Has image p) → Left (h .container) image left → Has left p
@@ -102,51 +128,51 @@ module _ (W : CallLaws) where
     unfolding perform advance
     by-write q place bytes e =
         let b = written-by (st .image) (st .session) c (g .has .opens) q place bytes e in
-        let w = W .write (st .image) c (g .has .opens) q place bytes (b .finish .there) (b .finish .internal) (b .finish .allowed) in
-        let f = W .frame (st .image) (writtenTo (stagedView c q) place bytes (st .image)) c (g .has .opens) (w .stores) in
+        let w = W .write (st .image) c (g .has .opens) q place bytes (b .finish .there) (b .finish .allowed) in
+        let f = frame-at (st .image) (writtenTo (stagedView c q) place bytes (st .image)) c (g .has .opens) q place (length bytes) (w .stores) p (g .has .there) (g .has .internal) in
         subst (λ (a : After). Agrees p (record { image = a .image; session = a .session }) (advance p (Write q place bytes) Accepted m)) (sym (b .after))
         (by w f (b .sound) (eqb q p) refl)
       where
         image' : List ℕ
         image' = writtenTo (stagedView c q) place bytes (st .image)
 
-        to : (w : WriteLaws c q place bytes (st .image) image') → FrameLaws c (st .image) image' → (f : Version → Version)
-            → versionOf (stagedView c p) image' ≡ f (versionOf (stagedView c p) (st .image)) → (o : Option Version) → Tracks (g .has) (st .session) o
-            → Tracks (has-left (g .has) (w .stores)) (st .session) (Option·map f o)
+        to : (w : WriteLaws c q place bytes (st .image) image') (f : FrameAt c p (st .image) image') (lay : Version → Version)
+            → versionOf (stagedView c p) image' ≡ lay (versionOf (stagedView c p) (st .image)) → (o : Option Version) → Tracks (g .has) (st .session) o
+            → Tracks (has-at (g .has) f) (st .session) (Option·map lay o)
         to w f lay k none t = t
         to w f lay k (some v) t = (t .0, goes-on c (st .image) image' (st .session) (f .header) (w .table) (t .1), k ∙ ap lay (t .2))
 
-        same : (w : WriteLaws c q place bytes (st .image) image') → FrameLaws c (st .image) image'
+        same : (w : WriteLaws c q place bytes (st .image) image') (f : FrameAt c p (st .image) image')
             → versionOf (stagedView c p) image' ≡ versionOf (stagedView c p) (st .image) → (o : Option Version) → Tracks (g .has) (st .session) o
-            → Tracks (has-left (g .has) (w .stores)) (st .session) o
+            → Tracks (has-at (g .has) f) (st .session) o
         same w f k none t = t
         same w f k (some v) t = (t .0, goes-on c (st .image) image' (st .session) (f .header) (w .table) (t .1), k ∙ t .2)
 
-        by : (w : WriteLaws c q place bytes (st .image) image') → FrameLaws c (st .image) image' → holdsZero (stagedView c q) place bytes image' ≡ false → (t : Bool) → eqb q p ≡ t
+        by : (w : WriteLaws c q place bytes (st .image) image') → FrameAt c p (st .image) image' → holdsZero (stagedView c q) place bytes image' ≡ false → (t : Bool) → eqb q p ≡ t
             → Agrees p (record { image = image'; session = st .session })
             (cond t (record { committed = m .committed; staged = Option·map (laidOver place bytes) (m .staged) }) m)
         by w f z true u = record {
-          has = has-left (g .has) (w .stores);
-          committed = f .version p (g .has .there) ∙ g .committed;
+          has = has-at (g .has) f;
+          committed = f .version ∙ g .committed;
           staged = to w f (laidOver place bytes)
               (subst (λ (z : ℕ). versionOf (stagedView c z) image' ≡ laidOver place bytes (versionOf (stagedView c z) (st .image))) (eqb-true q p u) (w .version z))
               (m .staged) (g .staged);
         }
         by w f z false u = record {
-          has = has-left (g .has) (w .stores);
-          committed = f .version p (g .has .there) ∙ g .committed;
+          has = has-at (g .has) f;
+          committed = f .version ∙ g .committed;
           staged = same w f (w .others p (g .has .there) (eqb-false q p u)) (m .staged) (g .staged);
         }
 
-    -- a write that is dropped has changed free bytes alone, and its session is idle
+    -- a write that is dropped has changed free bytes and its own in place, and its session is idle
     by-dropped : (call : Call) → ruled call st ≡ Dropped → Agrees p (next call st) (record { committed = m .committed; staged = none })
     unfolding perform
     by-dropped (Write q place bytes) e =
         let b = ended-by (st .image) (st .session) c (g .has .opens) q place bytes e in
-        let w = W .write (st .image) c (g .has .opens) q place bytes (b .finish .there) (b .finish .internal) (b .finish .allowed) in
-        let f = W .frame (st .image) (writtenTo (stagedView c q) place bytes (st .image)) c (g .has .opens) (w .stores) in
+        let w = W .write (st .image) c (g .has .opens) q place bytes (b .finish .there) (b .finish .allowed) in
+        let f = frame-at (st .image) (writtenTo (stagedView c q) place bytes (st .image)) c (g .has .opens) q place (length bytes) (w .stores) p (g .has .there) (g .has .internal) in
         subst (λ (a : After). Agrees p (record { image = a .image; session = a .session }) (record { committed = m .committed; staged = none })) (sym (b .after))
-        (record { has = has-left (g .has) (w .stores); committed = f .version p (g .has .there) ∙ g .committed; staged = idle-rests })
+        (record { has = has-at (g .has) f; committed = f .version ∙ g .committed; staged = idle-rests })
     by-dropped (Ask query) e = absurd (lasts (Ask query) st refl e)
     by-dropped Begin e = absurd (lasts Begin st refl e)
     by-dropped (Commit form) e = absurd (lasts (Commit form) st refl e)
@@ -163,7 +189,7 @@ module _ (W : CallLaws) where
         (by s (m .staged) (g .staged))
       where
         by : CommitLaws c (st .image) (landedImage form c (st .image)) → (o : Option Version) → Tracks (g .has) (st .session) o
-            → Agrees p (record { image = landedImage form c (st .image); session = idle }) (record { committed = Option·getD o (m .committed); staged = none })
+            → Agrees p (record { image = landedImage form c (st .image); session = remembering (headerBytes (st .image)) (headerBytes (landedImage form c (st .image))) }) (record { committed = Option·getD o (m .committed); staged = none })
         by s none t = not-both e (idles (Commit form) st refl t)
         by s (some v) t = record {
           has = record {
@@ -173,7 +199,7 @@ module _ (W : CallLaws) where
             internal = s .internal p (g .has .there) ∙ g .has .internal;
           };
           committed = s .version p (g .has .there) ∙ t .2;
-          staged = idle-rests;
+          staged = refl;
         }
 
     by-abandon : ruled Abandon st ≡ Accepted → Agrees p (next Abandon st) (advance p Abandon Accepted m)

@@ -14,7 +14,6 @@ use Rattle.layout.specs.Opening.{opened}
 use Rattle.layout.specs.Guarantees.{Guarantees}
 use Rattle.layout.proofs.GuaranteeLaws.{guarantees}
 use Rattle.layout.proofs.FrameLaws.{agree-part, frame-opened}
-use Rattle.signatures.specs.Signatures.{signatureRange}
 use Rattle.dpfs.specs.Free.{InRange}
 use Rattle.dpfs.proofs.SpaceLaws.{kept-content, kept-free}
 use Rattle.views.specs.Places.{partitions, slotOf, partitionOf, treeOf, viewIn, committedView, spaceOf}
@@ -22,10 +21,9 @@ use Rattle.views.specs.Protected.{ExternalByte, Protected}
 use Rattle.views.proofs.PlaceLaws.{committed-rules, committed-master, space-rules, tree-among}
 use Rattle.views.proofs.ProtectedLaws.{protected-not-free}
 use Rattle.steps.specs.Sessions.{selectorFlipped, forEach, stagedTable}
-use Rattle.faults.proofs.LevelLaws.{faults-cong}
-use Rattle.history.specs.Theorem.{Left}
+use Rattle.history.specs.Former.{Left}
 use Rattle.history.proofs.CallLaws.{FrameLaws}
-use Rattle.history.proofs.Seen.{SameSeen, same-verified, same-version}
+use Rattle.history.proofs.Seen.{SameSeen, same-version}
 
 module _ (image left : List ℕ) (c : Container) (g : Guarantees image c) (k : Left c image left) where
   -- what is not free stays: the first 0x200 bytes, the active table, an external level 4
@@ -72,8 +70,6 @@ framed image left c o k =
     record {
       opens = frame-opened image left c o (sym (k .size)) (λ i a b. sym (front-stays image left c g k i b)) (λ i a b. sym (active-stays image left c g k i (a, b)));
       header = header-stays image left c g k;
-      front = agree-part left image signatureRange (k .size) (λ i a b. front-stays image left c g k i (omega arith));
       free = λ i f. kept-free (spaceOf c) (length image) (space-rules image c g) image left k i .0 f;
       version = λ q h. same-version (committedView c q) (committedView c q) left image (length image) (committed-rules image c g q h) (seen image left c g k q h);
-      faults = faults-cong c left image (λ q i b h m l. same-verified (committedView c q) (committedView c q) left image (length image) (committed-rules image c g q h) (seen image left c g k q h) i b m l);
     }

@@ -106,7 +106,7 @@ laid-bytes p (e ∷ es) v i h =
 
 -- ---- blocks
 
-length-marked : (touched : ℕ → Bool) (b : ℕ) (vs : List Bool) → length (marked touched b vs) ≡ length vs
+pub length-marked : (touched : ℕ → Bool) (b : ℕ) (vs : List Bool) → length (marked touched b vs) ≡ length vs
 unfolding marked
 length-marked touched b [] = refl
 length-marked touched b (v ∷ vs) = ap suc (length-marked touched (suc b) vs)

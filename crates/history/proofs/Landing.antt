@@ -4,7 +4,7 @@ use mathlib.Core.Bool.{Bool, true, false, not, _&&_, cond}
 use mathlib.Core.Logic.{_⊎_, inl, inr}
 use mathlib.Core.List.{List, [], _∷_, _++_}
 use mathlib.Core.Option.{Option, none, some, Option·getD}
-use Prim.Native.Nat.{ℕ, zero, suc, _+_, _-_, _≤_, _<_}
+use Prim.Native.Nat.{ℕ, zero, suc, _+_, _≤_, _<_}
 use native.Mathlib.Omega.{arith}
 use native.Mathlib.Nat.{add-zero}
 use lib.ListN.{length, getD}
@@ -28,61 +28,33 @@ use Rattle.history.specs.Run.{State, perform, ruled, next, after, events
 use Rattle.history.specs.Theorem.{Has, Start, committedIn, levelIn, byteIn, verifiedIn, Landed}
 use Rattle.history.proofs.VersionLaws.{never}
 use Rattle.views.proofs.FlagLaws.{length-flags, getD-flags}
+use Rattle.history.specs.External.{There, committedOf}
 use Rattle.history.proofs.ReadLaws.{read-committed}
-use Rattle.history.proofs.CallCases.{write-fits, not-both, not-dropped, lasts, refused, idles, idle-after, written-by}
-use Rattle.history.proofs.CallLaws.{CallLaws}
-use Rattle.history.proofs.Following.{Tracks, Agrees, step, agrees-on, agrees-first}
+use Rattle.history.proofs.CallCases.{not-both, not-dropped, lasts, refused, idles, idle-after}
 use Rattle.history.proofs.LaidLaws.{putOver, laid, later-some, value-in, laid-bytes, laid-level, laid-written, laid-others}
 
 -- ---- the calls that are accepted: a write and a commit while there is a staged version, a write within level 4
 
-abbrev Allowed : (p : ℕ) → Model → Call → Type 0
+abbrev pub Allowed : (p : ℕ) → Model → Call → Type 0
 Allowed p m (Ask query) = Unit {0}
 Allowed p m Begin = Unit {0}
 Allowed p m (Write q place bytes) = (m .staged ≡ none → ⊥) × (q ≡ p → place + length bytes ≤ m .committed .level .size)
 Allowed p m (Commit form) = m .staged ≡ none → ⊥
 Allowed p m Abandon = Unit {0}
 
-abbrev Lawful : (p : ℕ) → List Event → Model → Type 0
+abbrev pub Lawful : (p : ℕ) → List Event → Model → Type 0
 Lawful p [] m = Unit {0}
 Lawful p (Did c Accepted ∷ es) m = Allowed p m c × Lawful p es (advance p c Accepted m)
 Lawful p (Did c Refused ∷ es) m = Lawful p es m
 Lawful p (Did c Dropped ∷ es) m = Lawful p es (record { committed = m .committed; staged = none })
 
-one-level : (c : Container) (p : ℕ) → stagedView c p .level4 ≡ committedView c p .level4
+pub one-level : (c : Container) (p : ℕ) → stagedView c p .level4 ≡ committedView c p .level4
 unfolding stagedView committedView viewIn
 one-level c p = refl
 
-version-level : (view : View) (image : List ℕ) → versionOf view image .level ≡ view .level4
+pub version-level : (view : View) (image : List ℕ) → versionOf view image .level ≡ view .level4
 unfolding versionOf
 version-level view image = refl
-
-module _ (W : CallLaws) where
-  allowed : (p : ℕ) (st : State) (m : Model) → Agrees p st m → (c : Call) → ruled c st ≡ Accepted → Allowed p m c
-  unfolding perform
-  allowed p st m g (Ask query) e = tt
-  allowed p st m g Begin e = tt
-  allowed p st m g (Write q place bytes) e =
-      let c = g .has .container in
-      let b = written-by (st .image) (st .session) c (g .has .opens) q place bytes e in
-      let l : m .committed .level ≡ stagedView c p .level4 =
-      ap (λ (v : Version). v .level) (sym (g .committed)) ∙ version-level (committedView c p) (st .image) ∙ sym (one-level c p) in (
-        λ n. not-both e (idles (Write q place bytes) st refl (subst (Tracks (g .has) (st .session)) n (g .staged))),
-        λ k. subst (λ (x : Level). place + length bytes ≤ x .size) (sym l)
-            (subst (λ (z : ℕ). place + length bytes ≤ stagedView c z .level4 .size) k (write-fits (stagedView c q) (st .image) place (length bytes) (b .finish .allowed))),
-      )
-  allowed p st m g (Commit form) e = λ n. not-both e (idles (Commit form) st refl (subst (Tracks (g .has) (st .session)) n (g .staged)))
-  allowed p st m g Abandon e = tt
-
-  lawful-on : (p : ℕ) (calls : List Call) (st : State) (m : Model) → Agrees p st m → Lawful p (events calls st) m
-  unfolding events advance
-  lawful-on p [] st m g = tt
-  lawful-on p (c ∷ calls) st m g = by (ruled c st) refl (lawful-on p calls (next c st) (advance p c (ruled c st) m) (step W p st m g c))
-    where
-      by : (r : Ruling) → ruled c st ≡ r → Lawful p (events calls (next c st)) (advance p c r m) → Lawful p (Did c r ∷ events calls (next c st)) m
-      by Accepted e l = (allowed p st m g c e, l)
-      by Refused e l = l
-      by Dropped e l = l
 
 -- ---- what a list of one begin comes to, in the model
 
@@ -192,7 +164,7 @@ live p (Did d Dropped ∷ es) old v l b c = absurd (let r = rest p es old l (ome
 live p (Did d Refused ∷ es) old v l b c = lands-on p _ es _ _ v (live p es old v l (omega arith) (omega arith)) refl refl refl
 
 -- before the begin
-landing : (p : ℕ) (es : List Event) (v : Version) → Lawful p es (record { committed = v; staged = none }) → begins es ≤ 1 → 0 < commits es
+pub landing : (p : ℕ) (es : List Event) (v : Version) → Lawful p es (record { committed = v; staged = none }) → begins es ≤ 1 → 0 < commits es
     → Lands p es (record { committed = v; staged = none }) v
 unfolding followed advance begins commits
 landing p [] v l b c = absurd (omega arith)
@@ -252,21 +224,21 @@ read-byte v i any h e =
         ap (λ (b : ℕ). getD (v .verified) b false) (sym u ∙ sym is ∙ ap (blockOf (v .level)) z) ∙ e
 
 -- a version against the one that the writes are laid over, each that of a view
-module _ (p : ℕ) (es : List Event) (first last : List ℕ) (old : Has first p) (new : Has last p)
-    (is : committedIn new ≡ laid p es (committedIn old)) (within : (i x : ℕ) → lastValue p i es ≡ some x → i < levelIn old .size) where
+module _ (p : ℕ) (es : List Event) (first last : List ℕ) (old : There first p) (new : There last p)
+    (is : committedOf new ≡ laid p es (committedOf old)) (within : (i x : ℕ) → lastValue p i es ≡ some x → i < levelIn old .size) where
   same-level : levelIn new ≡ levelIn old
   same-level =
       sym (version-level (committedView (new .container) p) last) ∙ ap (λ (v : Version). v .level) is
-      ∙ laid-level p es (committedIn old) ∙ version-level (committedView (old .container) p) first
+      ∙ laid-level p es (committedOf old) ∙ version-level (committedView (old .container) p) first
 
   byte-of : (i : ℕ) → i < levelIn old .size → byteIn new i ≡ Option·getD (lastValue p i es) (byteIn old i)
   byte-of i h =
       sym (version-byte (committedView (new .container) p) last i (subst (λ (l : Level). i < l .size) (sym same-level) h))
       ∙ ap (λ (v : Version). getD (v .bytes) i 0) is
-      ∙ laid-bytes p es (committedIn old) i (rw (version-size (committedView (old .container) p) first) h)
+      ∙ laid-bytes p es (committedOf old) i (rw (version-size (committedView (old .container) p) first) h)
       ∙ ap (Option·getD (lastValue p i es)) (version-byte (committedView (old .container) p) first i h)
 
-  flag-of : (b : ℕ) → b < blocks (levelIn old) → verifiedIn new b ≡ getD (laid p es (committedIn old) .verified) b false
+  flag-of : (b : ℕ) → b < blocks (levelIn old) → verifiedIn new b ≡ getD (laid p es (committedOf old) .verified) b false
   flag-of b h =
       sym (version-flag (committedView (new .container) p) last b (subst (λ (l : Level). b < blocks l) (sym same-level) h))
       ∙ ap (λ (v : Version). getD (v .verified) b false) is
@@ -278,7 +250,7 @@ module _ (p : ℕ) (es : List Event) (first last : List ℕ) (old : Has first p)
   verifies-of i x e =
       let there : blockOf (levelIn old) i < blocks (levelIn old) = block-exists (levelIn old) i (within i x e) in
       flag-of (blockOf (levelIn old) i) there
-      ∙ laid-written p es (committedIn old) (levelIn old) i x (version-level (committedView (old .container) p) first)
+      ∙ laid-written p es (committedOf old) (levelIn old) i x (version-level (committedView (old .container) p) first)
       (rw (version-count (committedView (old .container) p) first) there) e
 
   reads-of : (i x any : ℕ) → lastValue p i es ≡ some x → readCommitted last p i (any ∷ []) ≡ record { outcome = outcome.Accepted; buffer = x ∷ [] }
@@ -287,8 +259,8 @@ module _ (p : ℕ) (es : List Event) (first last : List ℕ) (old : Has first p)
       let inside : i < levelIn new .size = subst (λ (l : Level). i < l .size) (sym same-level) (within i x e) in
       let there : blockOf (levelIn new) i < blocks (levelIn new) = block-exists (levelIn new) i inside in
       read-committed last (new .container) (new .opens) p (new .there) i (any ∷ [])
-      ∙ read-byte (committedIn new) i any (rw (version-size view last) inside)
-      (ap (λ (l : Level). getD (committedIn new .verified) (blockOf l i) false) (version-level view last)
+      ∙ read-byte (committedOf new) i any (rw (version-size view last) inside)
+      (ap (λ (l : Level). getD (committedOf new .verified) (blockOf l i) false) (version-level view last)
       ∙ version-flag view last (blockOf (levelIn new) i) there ∙ ap (λ (l : Level). verifiedIn new (blockOf l i)) same-level ∙ verifies-of i x e)
       ∙ ap (λ (y : ℕ). record { outcome = outcome.Accepted; buffer = y ∷ [] }) (version-byte view last i inside ∙ written-of i x e)
 
@@ -302,14 +274,14 @@ module _ (p : ℕ) (es : List Event) (first last : List ℕ) (old : Has first p)
     reads = reads-of;
     others = λ i h e. byte-of i h ∙ ap (λ (o : Option ℕ). Option·getD o (byteIn old i)) e;
     otherBlocks = λ b h e. flag-of b h
-        ∙ laid-others p es (committedIn old) (levelIn old) b (version-level (committedView (old .container) p) first)
+        ∙ laid-others p es (committedOf old) (levelIn old) b (version-level (committedView (old .container) p) first)
         (rw (version-count (committedView (old .container) p) first) h) e
         ∙ version-flag (committedView (old .container) p) first b h;
   }
 
 -- ---- idle, and no begin accepted: nothing changes any more
 
-stays : (c : Call) (r : Ruling) (st : State) → ruled c st ≡ r → st .session .begun ≡ false → beginOf (Did c r) ≡ 0 → next c st ≡ st
+pub stays : (c : Call) (r : Ruling) (st : State) → ruled c st ≡ r → st .session .begun ≡ false → beginOf (Did c r) ≡ 0 → next c st ≡ st
 unfolding perform
 stays (Ask query) Accepted st e i b = refl
 stays Begin Accepted st e i b = absurd (omega arith)
@@ -356,13 +328,3 @@ settled st before rest form i h e =
     let sum = begins-append before (Commit form ∷ rest) st in
     after-append before (Commit form ∷ rest) st
     ∙ stays-on rest (next (Commit form) s) (idle-after form s e) (omega arith)
-
-module _ (W : CallLaws) where
-  pub landed : (p : ℕ) (st : State) (start : Start p st) (calls : List Call) → begins (events calls st) ≤ 1 → 0 < commits (events calls st)
-      → Landed p (events calls st) (st .image) (after calls st .image) (start .has)
-  landed p st start calls b c =
-      let g = agrees-first W p st start in
-      let a = agrees-on W p calls st (record { committed = committedIn (start .has); staged = none }) g in
-      let l = landing p (events calls st) (committedIn (start .has)) (lawful-on W p calls st (record { committed = committedIn (start .has); staged = none }) g) b c in
-      landed-of p (events calls st) (st .image) (after calls st .image) (start .has) (a .has) (a .committed ∙ l .version)
-      (λ i x e. subst (λ (v : Level). i < v .size) (version-level (committedView (start .has .container) p) (st .image)) (l .inside i x e))

@@ -20,4 +20,11 @@ pub mod Commits
 pub mod Calls
 pub mod Demand
 pub mod ReadBack
+pub mod Outers
+pub mod InPlace
+pub mod Eithers
+pub mod Fronts
+pub mod Reverts
+pub mod Terms
+pub mod Former
 pub mod SmallRun

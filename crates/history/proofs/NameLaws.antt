@@ -27,14 +27,14 @@ module _ (image : List ℕ) (c : Container) (o : opened image ≡ opening.Valid 
 
   -- another image that opens alike and shows the same version has the same names
   module _ (left : List ℕ) (o' : opened left ≡ opening.Valid c)
-    (same : ltb 0 (partitions c) ≡ true → versionOf (committedView c 0) left ≡ versionOf (committedView c 0) image) where
+      (same : holdsSave c ≡ true → versionOf (committedView c 0) left ≡ versionOf (committedView c 0) image) where
     pub names-same : (row : List ℕ) → listNames left row ≡ listNames image row
     unfolding listNames
     names-same row = ap (listedIn left row) o' ∙ by (holdsSave c) refl ∙ sym (ap (listedIn image row) o)
       where
         by : (t : Bool) → holdsSave c ≡ t
             → cond t (namesOf (versionOf (committedView c 0) left) row) (unlisted row NoSave) ≡ cond t (namesOf (versionOf (committedView c 0) image) row) (unlisted row NoSave)
-        by true h = ap (λ (v : Version). namesOf v row) (same (holds-there c h))
+        by true h = ap (λ (v : Version). namesOf v row) (same h)
         by false h = refl
 
     pub file-same : (folder : ℕ) (name : List ℕ) → findFile left folder name ≡ findFile image folder name
@@ -44,5 +44,5 @@ module _ (image : List ℕ) (c : Container) (o : opened image ≡ opening.Valid 
         by : (t : Bool) → holdsSave c ≡ t
             → cond t (fileOf (versionOf (committedView c 0) left) folder name) (sought.Refused NoSave)
             ≡ cond t (fileOf (versionOf (committedView c 0) image) folder name) (sought.Refused NoSave)
-        by true h = ap (λ (v : Version). fileOf v folder name) (same (holds-there c h))
+        by true h = ap (λ (v : Version). fileOf v folder name) (same h)
         by false h = refl

@@ -23,7 +23,7 @@ use Rattle.faults.specs.Laws.{ofLevel}
 use Rattle.faults.proofs.ListLaws.{at, kept-yes, kept-no, kept-none}
 use Rattle.faults.proofs.LevelLaws.{level-faults}
 use Rattle.history.specs.Model.{readOf, judgedOf, countTrue, unverified}
-use Rattle.views.specs.Versions.{versionOf}
+use Rattle.views.specs.Versions.{flags, versionOf}
 use Rattle.history.proofs.VersionLaws.{read-version, judged-version, count-version}
 
 -- of the blocks of a level 4, those that are not verified

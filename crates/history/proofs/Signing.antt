@@ -4,17 +4,15 @@ use mathlib.Core.Path.{_≡_, refl, sym, ap, _∙_, subst}
 use mathlib.Core.Bool.{Bool, true, false, cond}
 use mathlib.Core.List.{List}
 use mathlib.Core.Logic.{inl, inr}
-use Prim.Native.Nat.{ℕ, _+_, _≤_, _<_}
+use Prim.Native.Nat.{ℕ}
 use native.Mathlib.Omega.{arith}
 use lib.ListN.{length}
 use lib.Seq.{sets}
 use Rattle.number.specs.Frame.{Keeps}
 use Rattle.number.specs.Ranges.{part}
-use Rattle.number.specs.Bytes.{sameBytes}
 use Rattle.number.proofs.FrameLaws.{keeps-refl, keeps-trans, keeps-sets}
 use Rattle.number.proofs.ListLaws.{same-refl}
 use Rattle.layout.specs.declared.Container.{Container}
-use Rattle.layout.specs.declared.Opened.{Opened}
 use Rattle.layout.specs.declared.Opened.the-variants as opening
 use Rattle.layout.specs.Headers.{headerRange, headerBytes}
 use Rattle.layout.specs.Opening.{opened}
@@ -30,14 +28,35 @@ use Rattle.signatures.specs.Signatures.{signatureRange, signature, afterSigner,
 use Rattle.signatures.proofs.Laws.{length-signature, signed-of}
 use Rattle.commits.specs.Committing.{headerCommitted, committedImage, storedSigned, committedSigned}
 use Rattle.steps.specs.Calls.{After}
-use Rattle.history.specs.Model.{Form, Plain, Signed, Call, Commit, Ruling, Accepted}
+use Rattle.history.specs.Model.{Form, Plain, Signed, Commit, Ruling, Accepted}
 use Rattle.history.specs.Model as model
 use Rattle.history.specs.Run.{State, perform, ruled, next}
 use Rattle.history.specs.Theorem.{InUnit, SigningTheorem}
 use Rattle.history.proofs.CallCases.{landedImage, refused, lasts, committed-by, opens-first, signed-first}
-use Rattle.history.proofs.CallLaws.{Headed, CommitLaws, CallLaws}
+use Rattle.history.proofs.CallLaws.{CallLaws}
 use Rattle.history.proofs.Following.{staged-table}
 use Rattle.history.proofs.Units.{new-size, signed-front}
+
+-- ---- what goes by the first 0x200 bytes
+
+-- what is signed is of an image's length and its header
+pub same-signed : (image left : List ℕ) → length left ≡ length image → headerBytes left ≡ headerBytes image
+    → (signer : Signer) → signed left signer ≡ signed image signer
+unfolding signed
+same-signed image left n h signer = rw (n, h)
+
+-- a signed opening is of what opening answers, the header, the signature and what is signed
+pub same-signature : (image left key : List ℕ) (signer : Signer) → opened left ≡ opened image → headerBytes left ≡ headerBytes image
+    → part left signatureRange ≡ part image signatureRange → signed left signer ≡ signed image signer
+    → openedSigned left key signer ≡ openedSigned image key signer
+unfolding openedSigned
+same-signature image left key signer o h f s = by (signed image signer) s
+  where
+    by : (a : Answer) → signed left signer ≡ a
+        → cond (comesFirst (opened left)) (opened left) (afterSigner left key signer (signed left signer))
+        ≡ cond (comesFirst (opened image)) (opened image) (afterSigner image key signer a)
+    by (Signs block) e = rw (e, o, h, f)
+    by (Refused r) e = rw (e, o)
 
 -- ---- the unit
 
@@ -66,7 +85,7 @@ unit form st = by (ruled (Commit form) st) refl
 -- ---- after a signed commit
 
 -- a signer that has a block of one header has one of every header of the same kind
-signs-too : (kind : Kind) (signer : Signer) (header header' block : List ℕ) → signedAs kind signer header ≡ Signs block
+pub signs-too : (kind : Kind) (signer : Signer) (header header' block : List ℕ) → signedAs kind signer header ≡ Signs block
     → signedAs kind signer header' ≡ Signs (signingBlock signer header')
 signs-too kind signer header header' block e = by (sameKind kind (kindOf signer)) e
   where
@@ -75,7 +94,7 @@ signs-too kind signer header header' block e = by (sameKind kind (kindOf signer)
     by true e = refl
     by false e = let z : _≡_ {A = ℕ} 0 1 = cc in absurd (omega arith)
 
-opens-signed : (after key block : List ℕ) (signer : Signer) (c : Container) → opened after ≡ opening.Valid c → signed after signer ≡ Signs block
+pub opens-signed : (after key block : List ℕ) (signer : Signer) (c : Container) → opened after ≡ opening.Valid c → signed after signer ≡ Signs block
     → part after signatureRange ≡ signature key signer (headerBytes after) → openedSigned after key signer ≡ opening.Valid c
 unfolding openedSigned
 opens-signed after key block signer c o s f = rw (openedSigned, o, s, f, same-refl (signature key signer (headerBytes after))) o

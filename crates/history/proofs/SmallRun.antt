@@ -1,18 +1,22 @@
--- The theorem's premises can be met: on the small image a session begins, writes the whole of level 4 and commits. Assumes nothing.
-use mathlib.Core.Path.{_≡_, refl, sym, ap, _∙_}
-use mathlib.Core.Bool.{Bool, true, false, _||_, cond, or-true}
+-- The theorems' premises can be met: on the small image a session begins, writes the whole of level 4 and commits; the power fails; then another
+-- session does the same and steps back. Assumes nothing.
+use mathlib.Core.Path.{_≡_, refl, sym, ap, _∙_, subst}
+use mathlib.Core.Bool.{Bool, true, false, _||_, cond}
+use mathlib.Core.Logic.{inl}
 use mathlib.Core.List.{List, [], _∷_}
 use Prim.Native.Nat.{ℕ, zero, suc, _+_, _≤_, _<_}
 use native.Mathlib.Omega.{arith}
-use lib.ListN.{length, replicate, getD}
+use lib.ListN.{length, replicate}
 use lib.Dec.{lit<, leb, ltb}
+use borrow.Author.Tests.{lt-ltb}
 use Rattle.number.specs.declared.Level.{Level}
 use Rattle.number.specs.Fields.{le16, le32, le64}
 use Rattle.number.specs.Ranges.{part}
 use Rattle.number.specs.Bytes.{bytes}
-use Rattle.number.specs.Blocks.{blocks, blockSize, blockOf, blockLength, lastBlock}
+use Rattle.number.specs.Blocks.{blockSize, blockOf, blockLength, lastBlock}
 use Rattle.number.proofs.ListLaws.{bytes-is}
 use Rattle.number.proofs.OverlayLaws.{overlay-in}
+use Rattle.number.proofs.FrameLaws.{keeps-refl, keeps-more}
 use Rattle.sha256.specs.Sha256.{sha256}
 use Rattle.layout.specs.declared.Container.{Container}
 use Rattle.layout.specs.declared.Opened.{Opened}
@@ -32,160 +36,76 @@ use Rattle.update.specs.Writing.{zeroAmong, zeroHeld, Held}
 use Rattle.update.specs.Staged.{writtenTo, holdsZero}
 use Rattle.update.specs.Rules.{WriteRules}
 use Rattle.update.proofs.ImageLaws.{write-bytes, write-held}
-use Rattle.views.specs.Places.{partitions, slotOf, partitionOf, masterIn, viewIn, committedView, stagedView, spaceOf}
+use Rattle.views.specs.Places.{partitions, slotOf, partitionOf, masterIn, viewIn, stagedView, spaceOf}
 use Rattle.layout.specs.declared.Outcome.{Outcome}
 use Rattle.layout.specs.declared.Outcome.the-variants as outcome
-use Rattle.steps.specs.declared.Session.{Session}
 use Rattle.steps.specs.Reading.{touched, refuseLowest, refuseOutside}
-use Rattle.steps.specs.Sessions.{idle, begunImage, current, endsOutcome, writeOutcome}
+use Rattle.steps.specs.Sessions.{idle, begunWith, begunImage, current, endsOutcome, writeOutcome}
 use Rattle.steps.specs.Calls.{After, finished, inSession, writeOn, write}
 use Rattle.steps.proofs.BeginLaws.{begun-current}
 use Rattle.steps.proofs.WriteLaws.{write-rules}
-use Rattle.history.specs.Model.{Plain, Call, Begin, Write, Commit, Accepted, endingOf, Did, rulingOf}
+use Rattle.history.specs.Model.{Plain, Call, Begin, Write, Commit, Accepted, endingOf, Did, rulingOf, ruling, Ruling}
 use Rattle.views.specs.Versions.{Version, versionOf, flags}
 use Rattle.history.specs.Run.{State, perform, ruled, next, after, events, begins, commits}
+use Rattle.history.specs.External.{SomeExternal, LeftBut}
 use Rattle.history.specs.Theorem.{Start}
-use Rattle.history.proofs.CallCases.{begun-by, written-by}
+use Rattle.history.specs.Term.{ruledRevert, Happening, Do, Revert, Crash, foundAfter, Premise, pastAfter, atFirst, pastFirst}
+use Rattle.history.proofs.CallCases.{landedImage, begun-by, written-by, committed-by, idle-rests}
 use Rattle.history.proofs.Begins as laws
+use Rattle.history.proofs.Following.{staged-table}
+use Rattle.history.proofs.Units.{headed}
+use Rattle.history.proofs.Commits.{switched, after-opens}
 use Rattle.history.proofs.Demand.{demand3}
+use Rattle.history.proofs.Reverts.{revert-theorem}
 use Rattle.examples.proofs.SmallDigests.{Chain, small-chain}
-use Rattle.examples.proofs.SmallImage.{table, smallImage, smallContainer, small-opens, small-verified}
+use Rattle.examples.proofs.SmallImage.{table, smallImage, smallContainer, small-opens}
 
--- an idle session on it
-abbrev pub smallState : State
-smallState = record { image = smallImage; session = idle }
+-- ---- a small container
 
-there : 0 < partitions smallContainer
-unfolding smallContainer diffHeader
-there = lit< tt
+-- its first partition is internal, and each level of it is one block of 32 bytes
+pub record Small (c : Container) : Type 0 where
+  pub there : 0 < partitions c
+  pub internal : partitionOf c 0 .difi .external ≡ false
+  pub levels : (i : ℕ) → i ≤ 4 → (levelOf (stagedView c 0) i .size ≡ 32) × (levelOf (stagedView c 0) i .log ≡ 5)
 
-pub small-start : Start 0 smallState
-unfolding smallContainer partitionOf partitionFields difiFields table diffHeader idle
-small-start = record {
-  has = record { container = smallContainer; opens = small-opens; there = there; internal = refl };
-  idle = refl;
-}
+small-levels : (i : ℕ) → i ≤ 4 → (levelOf (stagedView smallContainer 0) i .size ≡ 32) × (levelOf (stagedView smallContainer 0) i .log ≡ 5)
+unfolding levelOf smallContainer stagedView viewIn masterIn slotOf partitionOf partitionFields difiFields ivfcFields table part le64 le32 le16
+small-levels zero h = (refl, refl)
+small-levels (suc zero) h = (refl, refl)
+small-levels (suc (suc zero)) h = (refl, refl)
+small-levels (suc (suc (suc zero))) h = (refl, refl)
+small-levels (suc (suc (suc (suc i)))) h = (refl, refl)
 
--- ---- a begin is accepted on it
+small : Small smallContainer
+unfolding smallContainer partitionOf partitionFields difiFields table diffHeader
+small = record { there = lit< tt; internal = refl; levels = small-levels }
 
-begin-there : ruled Begin smallState ≡ Accepted
-unfolding after
-begin-there = demand3 .progress .idle 0 smallState small-start [] (small-start .idle)
+-- a commit leaves one
+switched-small : (c : Container) → Small c → Small (switched c)
+unfolding levelOf stagedView viewIn masterIn slotOf partitionOf
+switched-small c s = record { there = s .there; internal = s .internal; levels = by }
+  where
+    by : (i : ℕ) → i ≤ 4 → (levelOf (stagedView (switched c) 0) i .size ≡ 32) × (levelOf (stagedView (switched c) 0) i .log ≡ 5)
+    by zero h = s .levels zero h
+    by (suc zero) h = s .levels 1 h
+    by (suc (suc zero)) h = s .levels 2 h
+    by (suc (suc (suc zero))) h = s .levels 3 h
+    by (suc (suc (suc (suc i)))) h = s .levels 4 (omega arith)
 
--- what it leaves
-abbrev begunSmall : List ℕ
-begunSmall = begunImage smallContainer smallImage
-
-abbrev begunSession : Session
-begunSession = record { begun = true; header = headerBytes smallImage }
-
-abbrev begunState : State
-begunState = record { image = begunSmall; session = begunSession }
-
-begun-is : next Begin smallState ≡ begunState
-unfolding perform
-begun-is = ap (λ (a : After). record { image = a .image; session = a .session }) (begun-by smallImage idle smallContainer small-opens begin-there .after)
-
-begun-opens : opened begunSmall ≡ opening.Valid smallContainer
-begun-opens =
-    demand3 .crash .answers smallImage begunSmall smallContainer small-opens (laws.begins smallImage smallContainer small-opens .stores) .opening Plain ∙ small-opens
-
--- ---- then a write of the whole of level 4
-
-abbrev pub written : Call
-written = Write 0 0 (replicate 32 7)
-
--- the verified blocks of a level 4 of one block
-one-block : (v : View) (image : List ℕ) → blocks (v .level4) ≡ 1 → versionOf v image .verified ≡ verified v image 4 0 ∷ []
-unfolding versionOf flags
-one-block v image e = ap (flags (verified v image 4) 0) e
-
--- level 4, in either view
-abbrev dataLevel : Level
-dataLevel = record { offset = 96; size = 32; log = 5 }
-
-committed-level : committedView smallContainer 0 .level4 ≡ dataLevel
-unfolding smallContainer committedView viewIn partitionOf partitionFields difiFields ivfcFields table part le64 le32 le16
-committed-level = refl
-
-staged-level : stagedView smallContainer 0 .level4 ≡ dataLevel
-unfolding smallContainer stagedView viewIn partitionOf partitionFields difiFields ivfcFields table part le64 le32 le16
-staged-level = refl
-
-committed-one : blocks (committedView smallContainer 0 .level4) ≡ 1
-unfolding blocks blockSize
-committed-one = ap blocks committed-level
-
-staged-one : blocks (stagedView smallContainer 0 .level4) ≡ 1
-unfolding blocks blockSize
-staged-one = ap blocks staged-level
-
--- the block is verified in the staged view after the begin
-staged-verified : verified (stagedView smallContainer 0) begunSmall 4 0 ≡ true
-staged-verified =
-    ap (λ (l : List Bool). getD l 0 false)
-    (sym (one-block (stagedView smallContainer 0) begunSmall staged-one)
-    ∙ ap (λ (v : Version). v .verified) (laws.begins smallImage smallContainer small-opens .version 0 there)
-    ∙ one-block (committedView smallContainer 0) smallImage committed-one)
-    ∙ small-verified
-
--- where 32 bytes from 0 on touch block 0 alone, a test that holds there refuses nothing
-passes : (P : ℕ → Bool) (refusal : ℕ → Refusal) (view : View) (rest : Outcome) → blockOf (view .level4) 0 ≡ 0 → touched (view .level4) 0 32 ≡ 1 → P 0 ≡ true
-    → refuseLowest P refusal view 0 32 rest ≡ rest
-unfolding refuseLowest firstNot
-passes P refusal view rest b t p = rw (b, t, p)
-
-first-block : blockOf (stagedView smallContainer 0 .level4) 0 ≡ 0
-unfolding blockOf blockSize
-first-block = ap (λ (l : Level). blockOf l 0) staged-level
-
-touched-one : touched (stagedView smallContainer 0 .level4) 0 32 ≡ 1
-unfolding touched lastBlock blockOf blockSize
-touched-one = ap (λ (l : Level). touched l 0 32) staged-level
-
-inside-there : (rest : Outcome) → refuseOutside (stagedView smallContainer 0) 0 32 rest ≡ rest
-unfolding refuseOutside
-inside-there rest = ap (λ (l : Level). cond (leb 32 (l .size)) rest (outcome.Refused OutOfRange)) staged-level
-
-outcome-there : writeOutcome (stagedView smallContainer 0) begunSmall 0 32 ≡ outcome.Accepted
-unfolding writeOutcome endsOutcome
-outcome-there =
-    inside-there _
-    ∙ passes _ _ (stagedView smallContainer 0) _ first-block touched-one
-    (ap (λ (t : Bool). covered (stagedView smallContainer 0 .level4) 0 32 0 || t) staged-verified
-    ∙ or-true (covered (stagedView smallContainer 0 .level4) 0 32 0))
-
--- a write that passes each check is accepted
-write-accepted : (st : State) (c : Container) (q place : ℕ) (bytes : List ℕ) → opened (st .image) ≡ opening.Valid c → st .session .begun ≡ true
-    → current c (st .image) (st .session) ≡ true → ltb q (partitions c) ≡ true → stagedView c q .external ≡ false
-    → writeOutcome (stagedView c q) (st .image) place (length bytes) ≡ outcome.Accepted
-    → holdsZero (stagedView c q) place bytes (writtenTo (stagedView c q) place bytes (st .image)) ≡ false → ruled (Write q place bytes) st ≡ Accepted
-unfolding perform write finished
-write-accepted st c q place bytes o b k t e w z =
-    ap (λ (x : Opened). endingOf (inSession (st .image) (st .session) (writeOn (st .image) (st .session) q place bytes) x .outcome)) o ∙ rw (z, w, k, b, t, e)
-
-below : ltb 0 (partitions smallContainer) ≡ true
-unfolding smallContainer diffHeader
-below = refl
-
-internal : stagedView smallContainer 0 .external ≡ false
-unfolding smallContainer stagedView viewIn partitionOf partitionFields difiFields table
-internal = refl
-
--- ---- none of the digests that it holds is all zero
+-- ---- digests
 
 -- where each level is one block of one entry, the digests are a chain
-module _ (levels : ℕ → Level) (content : ℕ → ℕ → ℕ) (small : (i : ℕ) → i ≤ 4 → (levels i .size ≡ 32) × (levels i .log ≡ 5)) where
+module _ (levels : ℕ → Level) (content : ℕ → ℕ → ℕ) (one : (i : ℕ) → i ≤ 4 → (levels i .size ≡ 32) × (levels i .log ≡ 5)) where
   one-entry : (i : ℕ) → i ≤ 4 → block (levels i) (content i) 0 ≡ bytes (content i) 0 32
   unfolding block blockLength blockSize bytes
   one-entry i h =
-      let (s, k) = small i h in
+      let (s, k) = one i h in
       rw (s, k)
 
   parent-none : (i : ℕ) → i ≤ 4 → parent (levels i) 0 ≡ 0
   unfolding parent blockOf blockSize
   parent-none i h =
-      let (s, k) = small i h in
+      let (s, k) = one i h in
       rw k
 
   chain-holds : (i : ℕ) → i ≤ 4 → (d : List ℕ) → bytes (content i) 0 32 ≡ d → Held levels content i 0 0 → Chain i d → zeroHeld levels content i 0 0 ≡ false
@@ -197,65 +117,206 @@ module _ (levels : ℕ → Level) (content : ℕ → ℕ → ℕ) (small : (i : 
       let r : Held levels content i 0 0 = rw (parent-none i (omega arith)) at (held .1) in
       rw (n, parent-none i (omega arith)) (chain-holds i (omega arith) (sha256 d) q r (chain .1))
 
-small-levels : (i : ℕ) → i ≤ 4 → (levelOf (stagedView smallContainer 0) i .size ≡ 32) × (levelOf (stagedView smallContainer 0) i .log ≡ 5)
-unfolding levelOf smallContainer stagedView viewIn masterIn slotOf partitionOf partitionFields difiFields ivfcFields table part le64 le32 le16
-small-levels zero h = (refl, refl)
-small-levels (suc zero) h = (refl, refl)
-small-levels (suc (suc zero)) h = (refl, refl)
-small-levels (suc (suc (suc zero))) h = (refl, refl)
-small-levels (suc (suc (suc (suc i)))) h = (refl, refl)
+-- ---- a write of the whole of level 4
 
-abbrev smallAfter : List ℕ
-smallAfter = writtenTo (stagedView smallContainer 0) 0 (replicate 32 7) begunSmall
+abbrev pub written : Call
+written = Write 0 0 (replicate 32 7)
 
-write-asks : WriteRules (spaceOf smallContainer) (stagedView smallContainer 0) begunSmall 0 (replicate 32 7)
-write-asks = write-rules begunSmall smallContainer (guarantees begunSmall smallContainer begun-opens) 0 there internal 0 (replicate 32 7) outcome-there
+-- where 32 bytes from 0 on touch block 0 alone, a test that holds there refuses nothing
+passes : (P : ℕ → Bool) (refusal : ℕ → Refusal) (view : View) (rest : Outcome) → blockOf (view .level4) 0 ≡ 0 → touched (view .level4) 0 32 ≡ 1 → P 0 ≡ true
+    → refuseLowest P refusal view 0 32 rest ≡ rest
+unfolding refuseLowest firstNot
+passes P refusal view rest b t p = rw (b, t, p)
 
-written-bytes : bytes (contentOf (stagedView smallContainer 0) smallAfter 4) 0 32 ≡ replicate 32 7
-written-bytes =
-    bytes-is (contentOf (stagedView smallContainer 0) smallAfter 4) 0 32 (replicate 32 7) refl
-    (λ m h. write-bytes (spaceOf smallContainer) (stagedView smallContainer 0) begunSmall 0 (replicate 32 7) write-asks (0 + m)
-    (rw staged-level (omega arith))
-    ∙ overlay-in (contentOf (stagedView smallContainer 0) begunSmall 4) 0 (replicate 32 7) m h)
+-- they cover it
+module _ (l : Level) (s : l .size ≡ 32) (k : l .log ≡ 5) where
+  first-block : blockOf l 0 ≡ 0
+  unfolding blockOf blockSize
+  first-block = rw k
 
-last-block : lastBlock (stagedView smallContainer 0 .level4) 0 32 ≡ 0
-unfolding lastBlock blockOf blockSize
-last-block = ap (λ (l : Level). lastBlock l 0 32) staged-level
+  last-block : lastBlock l 0 32 ≡ 0
+  unfolding lastBlock blockOf blockSize
+  last-block = rw k
 
-none-zero : holdsZero (stagedView smallContainer 0) 0 (replicate 32 7) (writtenTo (stagedView smallContainer 0) 0 (replicate 32 7) begunSmall) ≡ false
-unfolding holdsZero
-none-zero =
-    rw (first-block, last-block)
-    (chain-holds (levelOf (stagedView smallContainer 0)) (contentOf (stagedView smallContainer 0) smallAfter) small-levels 4 (omega arith) (replicate 32 7) written-bytes
-    (rw (first-block, last-block) at (write-held (spaceOf smallContainer) (stagedView smallContainer 0) begunSmall 0 (replicate 32 7) write-asks (omega arith))) small-chain)
+  touched-one : touched l 0 32 ≡ 1
+  unfolding touched lastBlock blockOf blockSize
+  touched-one = rw k
 
-pub write-there : ruled written (next Begin smallState) ≡ Accepted
-write-there =
-    ap (ruled written) begun-is
-    ∙ write-accepted begunState smallContainer 0 0 (replicate 32 7) begun-opens refl
-    (begun-current smallImage smallContainer (guarantees smallImage smallContainer small-opens)) below internal outcome-there none-zero
+  covered-one : covered l 0 32 0 ≡ true
+  unfolding covered blockLength blockSize
+  covered-one = rw (s, k)
 
--- ---- and a commit
+-- a write that passes each check is accepted
+write-accepted : (st : State) (c : Container) (q place : ℕ) (bytes : List ℕ) → opened (st .image) ≡ opening.Valid c → st .session .begun ≡ true
+    → current c (st .image) (st .session) ≡ true → ltb q (partitions c) ≡ true
+    → writeOutcome (stagedView c q) (st .image) place (length bytes) ≡ outcome.Accepted
+    → holdsZero (stagedView c q) place bytes (writtenTo (stagedView c q) place bytes (st .image)) ≡ false → ruled (Write q place bytes) st ≡ Accepted
+unfolding perform write finished
+write-accepted st c q place bytes o b k t w z =
+    ap (λ (x : Opened). endingOf (inSession (st .image) (st .session) (writeOn (st .image) (st .session) q place bytes) x .outcome)) o ∙ rw (z, w, k, b, t)
 
-begun-there : next written (next Begin smallState) .session .begun ≡ true
-unfolding perform
-begun-there =
-    ap (λ (st : State). next written st .session .begun) begun-is
-    ∙ ap (λ (a : After). a .session .begun)
-    (written-by begunSmall begunSession smallContainer begun-opens 0 0 (replicate 32 7) (ap (ruled written) (sym begun-is) ∙ write-there) .after)
+-- ---- a session on an image that opens so: a begin, that write and a commit are accepted
 
-commit-there : ruled (Commit Plain) (next written (next Begin smallState)) ≡ Accepted
-unfolding after
-commit-there = demand3 .progress .begun 0 smallState small-start (Begin ∷ written ∷ []) begun-there .0
+abbrev pub idleOn : List ℕ → State
+idleOn image = record { image = image; session = idle }
 
--- the list, and what came of it
 abbrev pub smallCalls : List Call
 smallCalls = Begin ∷ written ∷ Commit Plain ∷ []
 
+-- after the write
+abbrev pub before : List ℕ → State
+before image = next written (next Begin (idleOn image))
+
+module _ (image : List ℕ) (c : Container) (o : opened image ≡ opening.Valid c) (s : Small c) where
+  pub start : Start 0 (idleOn image)
+  start = record { has = record { container = c; opens = o; there = s .there; internal = s .internal }; idle = idle-rests }
+
+  pub begin-there : ruled Begin (idleOn image) ≡ Accepted
+  unfolding after
+  begin-there = demand3 .progress .idle 0 (idleOn image) start [] idle-rests
+
+  -- what it leaves
+  abbrev begunState : State
+  begunState = record { image = begunImage c image; session = begunWith (headerBytes image) }
+
+  begun-is : next Begin (idleOn image) ≡ begunState
+  unfolding perform
+  begun-is = ap (λ (a : After). record { image = a .image; session = a .session }) (begun-by image idle c o begin-there .after)
+
+  begun-opens : opened (begunImage c image) ≡ opening.Valid c
+  begun-opens = demand3 .crash .answers image (begunImage c image) c [] o (keeps-more (λ i f. inl f) (laws.begins image c o .stores)) .opening Plain ∙ o
+
+  abbrev view : View
+  view = stagedView c 0
+
+  size4 : view .level4 .size ≡ 32
+  unfolding levelOf
+  size4 = s .levels 4 (omega arith) .0
+
+  log4 : view .level4 .log ≡ 5
+  unfolding levelOf
+  log4 = s .levels 4 (omega arith) .1
+
+  outcome-there : writeOutcome view (begunImage c image) 0 32 ≡ outcome.Accepted
+  unfolding writeOutcome endsOutcome refuseOutside
+  outcome-there =
+      ap (λ (n : ℕ). cond (leb 32 n) (endsOutcome view (begunImage c image) 0 32) (outcome.Refused OutOfRange)) size4
+      ∙ passes _ _ view _ (first-block (view .level4) size4 log4) (touched-one (view .level4) size4 log4)
+      (ap (λ (t : Bool). t || verified view (begunImage c image) 4 0) (covered-one (view .level4) size4 log4))
+
+  abbrev afterWrite : List ℕ
+  afterWrite = writtenTo view 0 (replicate 32 7) (begunImage c image)
+
+  asks : WriteRules (spaceOf c) view (begunImage c image) 0 (replicate 32 7)
+  asks = write-rules (begunImage c image) c (guarantees (begunImage c image) c begun-opens) 0 (s .there) 0 (replicate 32 7) outcome-there
+
+  written-bytes : bytes (contentOf view afterWrite 4) 0 32 ≡ replicate 32 7
+  written-bytes =
+      bytes-is (contentOf view afterWrite 4) 0 32 (replicate 32 7) refl
+      (λ m h. write-bytes (spaceOf c) view (begunImage c image) 0 (replicate 32 7) asks (0 + m) (rw size4 (omega arith))
+      ∙ overlay-in (contentOf view (begunImage c image) 4) 0 (replicate 32 7) m h)
+
+  -- none of the digests that it holds is all zero
+  none-zero : holdsZero view 0 (replicate 32 7) afterWrite ≡ false
+  unfolding holdsZero
+  none-zero =
+      let b = first-block (view .level4) size4 log4 in
+      let l = last-block (view .level4) size4 log4 in
+      rw (b, l)
+      (chain-holds (levelOf view) (contentOf view afterWrite) (s .levels) 4 (omega arith) (replicate 32 7) written-bytes
+      (rw (b, l) at (write-held (spaceOf c) view (begunImage c image) 0 (replicate 32 7) asks (omega arith))) small-chain)
+
+  begun-accepts : ruled written begunState ≡ Accepted
+  begun-accepts =
+      write-accepted begunState c 0 0 (replicate 32 7) begun-opens refl (begun-current image c (guarantees image c o)) (lt-ltb 0 (partitions c) (s .there))
+      outcome-there none-zero
+
+  pub write-there : ruled written (next Begin (idleOn image)) ≡ Accepted
+  write-there = ap (ruled written) begun-is ∙ begun-accepts
+
+  begun-there : next written (next Begin (idleOn image)) .session .begun ≡ true
+  unfolding perform
+  begun-there =
+      ap (λ (st : State). next written st .session .begun) begun-is
+      ∙ ap (λ (a : After). a .session .begun)
+      (written-by (begunImage c image) (begunWith (headerBytes image)) c begun-opens 0 0 (replicate 32 7) begun-accepts .after)
+
+  pub commit-there : ruled (Commit Plain) (before image) ≡ Accepted
+  unfolding after
+  commit-there = demand3 .progress .begun 0 (idleOn image) start (Begin ∷ written ∷ []) begun-there .0
+
+  -- the image that it leaves opens so too
+  written-opens : opened (before image .image) ≡ opening.Valid c
+  unfolding after events commits
+  written-opens =
+      demand3 .crash .answers image (before image .image) c (events (Begin ∷ written ∷ []) (idleOn image)) o
+      (demand3 .crash .stores (idleOn image) (Begin ∷ written ∷ []) c o (rw (begin-there, write-there))) .opening Plain ∙ o
+
+  pub landed-opens : opened (next (Commit Plain) (before image) .image) ≡ opening.Valid (switched c)
+  unfolding perform
+  landed-opens =
+      let b = committed-by Plain (before image) c written-opens commit-there in
+      ap (λ (a : After). opened (a .image)) (b .after)
+      ∙ after-opens (before image .image) c written-opens (staged-table c (before image .image) (before image .session) (b .current)) (landedImage Plain c (before image .image))
+      (headed (before image .image) c (guarantees (before image .image) c written-opens) Plain)
+
+-- ---- on the small image
+
+abbrev pub smallState : State
+smallState = idleOn smallImage
+
+pub small-start : Start 0 smallState
+small-start = start smallImage smallContainer small-opens small
+
+-- what came of the list
 pub small-events : events smallCalls smallState ≡ Did Begin Accepted ∷ Did written Accepted ∷ Did (Commit Plain) Accepted ∷ []
 unfolding events
-small-events = rw (begin-there, write-there, commit-there)
+small-events =
+    rw (begin-there smallImage smallContainer small-opens small, write-there smallImage smallContainer small-opens small, commit-there smallImage smallContainer small-opens small)
 
 pub small-lands : (begins (events smallCalls smallState) ≡ 1) × (ruled written (next Begin smallState) ≡ Accepted) × (commits (events smallCalls smallState) ≡ 1)
 unfolding begins commits
-small-lands = (rw small-events, write-there, rw small-events)
+small-lands = (rw small-events, write-there smallImage smallContainer small-opens small, rw small-events)
+
+-- ---- and a term on it: the power fails after the commit, another session does the same, and its commit is reverted
+
+abbrev pub landedSmall : List ℕ
+landedSmall = next (Commit Plain) (before smallImage) .image
+
+abbrev pub smallTerm : List Happening
+smallTerm = Do Begin ∷ Do written ∷ Do (Commit Plain) ∷ Crash landedSmall ∷ Do Begin ∷ Do written ∷ Do (Commit Plain) ∷ Revert Plain ∷ []
+
+-- its premise holds
+pub small-premise : Premise smallTerm (atFirst smallImage)
+unfolding Premise
+small-premise = (tt, (tt, (tt, (left, (tt, (tt, (tt, (tt, tt))))))))
+  where
+    left : (c : Container) → opened (foundAfter (Commit Plain) (ruled (Commit Plain) (before smallImage)) smallImage landedSmall) ≡ opening.Valid c
+        → LeftBut (SomeExternal c) c (foundAfter (Commit Plain) (ruled (Commit Plain) (before smallImage)) smallImage landedSmall) landedSmall
+    left c o =
+        subst (λ (r : Ruling). LeftBut (SomeExternal c) c (foundAfter (Commit Plain) r smallImage landedSmall) landedSmall)
+        (sym (commit-there smallImage smallContainer small-opens small)) (keeps-refl _ _)
+
+-- each call of the second session is accepted, and so is the revert
+landed-small : opened landedSmall ≡ opening.Valid (switched smallContainer)
+landed-small = landed-opens smallImage smallContainer small-opens small
+
+again : Small (switched smallContainer)
+again = switched-small smallContainer small
+
+pub second-accepted : (ruled Begin (idleOn landedSmall) ≡ Accepted) × (ruled written (next Begin (idleOn landedSmall)) ≡ Accepted) × (ruled (Commit Plain) (before landedSmall) ≡ Accepted)
+second-accepted = (
+  begin-there landedSmall (switched smallContainer) landed-small again,
+  write-there landedSmall (switched smallContainer) landed-small again,
+  commit-there landedSmall (switched smallContainer) landed-small again,
+)
+
+pub revert-there : ruledRevert Plain (next (Commit Plain) (before landedSmall)) ≡ Accepted
+unfolding after events begins
+revert-there = ap ruling (revert-theorem .back Plain Plain (before landedSmall) [] (second-accepted .2) refl .answer)
+
+-- so of the three versions the newest is removed
+pub small-versions : length (pastAfter 0 smallTerm (atFirst smallImage) (pastFirst (small-start .has)) .older) ≡ 1
+unfolding pastAfter
+small-versions =
+    rw (begin-there smallImage smallContainer small-opens small, write-there smallImage smallContainer small-opens small, commit-there smallImage smallContainer small-opens small, second-accepted .0, second-accepted .1, second-accepted .2, revert-there)

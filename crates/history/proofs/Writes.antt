@@ -3,51 +3,51 @@
 use mathlib.Core.Path.{_≡_, refl, sym, ap, _∙_}
 use mathlib.Core.Bool.{Bool, true, false, not, _||_, cond, true≢false, or-true}
 use mathlib.Core.List.{List, _∷_}
-use mathlib.Core.Logic.{inl, inr}
+use mathlib.Core.Logic.{_⊎_, inl, inr, ⊎-elim}
 use mathlib.Core.Option.{none, some, Option·getD}
 use Prim.Native.Nat.{ℕ, zero, suc, _+_, _-_, _≤_, _<_}
 use native.Mathlib.Omega.{arith}
 use lib.ListN.{length, getD}
 use lib.Seq.{sets, length-sets}
-use lib.Dec.{leb, ltb, eqb}
-use borrow.Author.Tests.{ltb-false, eq-eqb, ne-eqb}
-use Rattle.number.specs.Blocks.{blocks, blockOf, lastBlock, touches}
+use lib.Dec.{eqb}
+use borrow.Author.Tests.{eq-eqb}
+use Rattle.number.specs.Blocks.{blocks, touches}
 use Rattle.number.specs.Bytes.{bytes, within, overlay}
 use Rattle.number.specs.Ranges.{Apart}
 use Rattle.number.proofs.ListLaws.{length-bytes, getD-bytes, bytes-is}
 use Rattle.number.proofs.OverlayLaws.{within-in}
-use Rattle.number.proofs.BlockLaws.{block-mono, touches-is}
+use Rattle.number.proofs.FrameLaws.{keeps-more}
 use Rattle.layout.specs.declared.Container.{Container}
 use Rattle.layout.specs.declared.Opened.the-variants as opening
-use Rattle.layout.specs.Tables.{inactive}
+use Rattle.layout.specs.Tables.{active, inactive}
+use Rattle.layout.proofs.FrameLaws.{agree-part}
 use Rattle.layout.specs.Opening.{opened}
 use Rattle.layout.specs.Guarantees.{Guarantees}
 use Rattle.layout.proofs.GuaranteeLaws.{guarantees}
 use Rattle.dpfs.specs.Free.{InRange}
 use Rattle.ivfc.specs.declared.View.{View}
-use Rattle.ivfc.specs.Blocks.{parent}
-use Rattle.ivfc.specs.Views.{levelOf, contentOf, verified}
-use Rattle.ivfc.specs.Verified.{firstNot}
-use Rattle.ivfc.proofs.LowestLaws.{first-lowest, lowest-past}
+use Rattle.ivfc.specs.Views.{contentOf, verified}
 use Rattle.update.specs.Staged.{writtenTo, holdsZero}
-use Rattle.update.specs.Rules.{StagedRules, WriteRules}
-use Rattle.update.proofs.ImageLaws.{write-free, write-bytes, write-verified, write-other, write-table}
+use Rattle.update.specs.Rules.{WriteRules}
+use Rattle.update.specs.Rules as update
+use Rattle.update.proofs.ImageLaws.{write-stores, write-bytes, write-verified, write-other, write-table}
 use Rattle.views.specs.Places.{partitions, slotOf, partitionOf, treeOf, viewIn, masterIn, stagedView, spaceOf}
 use Rattle.steps.proofs.WriteLaws.{write-rules}
 use Rattle.views.proofs.PlaceLaws.{second-there, third-missing, staged-rules, staged-master, tree-among}
-use Rattle.layout.specs.declared.Outcome.{Outcome}
 use Rattle.layout.specs.declared.Outcome.the-variants as outcome
 use Rattle.steps.specs.Reading.{touched, refuseLowest, refuseOutside}
-use Rattle.steps.specs.Sessions.{stagedTable, inMaster, inSomeMaster, tableStaged, writeOutcome}
+use Rattle.steps.specs.Sessions.{stagedTable, inMaster, inSomeMaster, tableStaged, writeOutcome, selectorFlipped, forEach}
 use Rattle.history.specs.Model.{marked, laidOver}
 use Rattle.views.specs.Versions.{flags, versionOf}
-use Rattle.history.specs.Theorem.{Left}
-use Rattle.views.proofs.FlagLaws.{flags-cong}
 use Rattle.history.proofs.CallCases.{passed, unrefused, write-fits}
+use Rattle.views.specs.Protected.{ExternalByte, Protected}
+use Rattle.views.proofs.ProtectedLaws.{protected-not-free}
+use Rattle.history.specs.External.{InPlace, LeftBut}
+use Rattle.views.proofs.FlagLaws.{flags-cong}
 use Rattle.history.proofs.CallLaws.{WriteLaws}
 use Rattle.history.proofs.LaidLaws.{put-bytes}
 use Rattle.history.proofs.Seen.{SameSeen, same-version}
-use Rattle.history.proofs.Frames.{outside-stays, staged-stays}
+use Rattle.history.proofs.Outers.{place-outer, active-stays, external-inside, same-or-apart}
 use Rattle.history.proofs.Tables.{below-all, place-of, descriptors-apart, trees-apart, staged-byte}
 
 -- ---- the version, byte by byte and block by block
@@ -85,7 +85,7 @@ version-laid view image after place values same blocked =
     λ i. record { level = view .level4; bytes = one i; verified = two i }
 
 module _ (image : List ℕ) (c : Container) (o : opened image ≡ opening.Valid c) (q place : ℕ) (values : List ℕ) (there : q < partitions c)
-    (internal : partitionOf c q .difi .external ≡ false) (ok : writeOutcome (stagedView c q) image place (length values) ≡ outcome.Accepted) where
+    (ok : writeOutcome (stagedView c q) image place (length values) ≡ outcome.Accepted) where
   g : Guarantees image c
   g = guarantees image c o
 
@@ -94,10 +94,24 @@ module _ (image : List ℕ) (c : Container) (o : opened image ≡ opening.Valid 
 
   write : WriteRules (spaceOf c) (stagedView c q) image place values
   unfolding stagedView viewIn
-  write = write-rules image c g q there internal place values ok
+  write = write-rules image c g q there place values ok
 
-  stores : Left c image after
-  stores = write-free (spaceOf c) (stagedView c q) image place values write
+  -- what is written in place is a part of the external level 4
+  in-place : (i : ℕ) → update.InPlace (stagedView c q) place (length values) i → InPlace c q place (length values) i
+  unfolding update.InPlace InPlace ExternalByte stagedView viewIn
+  in-place i (e, (a, b)) = let f = write .fits in (there, (e, (omega arith, omega arith)), (omega arith, omega arith))
+
+  abbrev Written : ℕ → Type 0
+  Written = InPlace c q place (length values)
+
+  stores : LeftBut Written c image after
+  stores = keeps-more (λ i. elim [ inl f ↦ inl f | inr x ↦ inr (in-place i x) ]) (write-stores (spaceOf c) (stagedView c q) image place values write)
+
+  staged-same : stagedTable c after ≡ stagedTable c image
+  unfolding stagedTable
+  staged-same =
+      ap (forEach c (selectorFlipped c))
+      (agree-part after image (active (c .header)) (stores .size) (λ i a b. active-stays image after c g Written (place-outer c q place (length values)) stores i (a, b)))
 
   version : holdsZero (stagedView c q) place values after ≡ false → versionOf (stagedView c q) after ≡ laidOver place values (versionOf (stagedView c q) image)
   version z =
@@ -132,7 +146,7 @@ module _ (image : List ℕ) (c : Container) (o : opened image ≡ opening.Valid 
           (write-table (spaceOf c) (stagedView c q) image place values write (inactive (c .header) .offset + i) (in-table i h)
           (λ f. true≢false (sym (in-master i f) ∙ m))
           ∙ staged-byte image c g e i h m
-          ∙ ap (λ (x : List ℕ). getD x i 0) (sym (staged-stays image after c g stores)))
+          ∙ ap (λ (x : List ℕ). getD x i 0) (sym staged-same))
         where
           in-table : (i : ℕ) → i < inactive (c .header) .size → InRange (inactive (c .header)) (inactive (c .header) .offset + i)
           in-table i h = (omega arith, omega arith)
@@ -153,6 +167,21 @@ module _ (image : List ℕ) (c : Container) (o : opened image ≡ opening.Valid 
         by (inl x) m n = omega arith
         by (inr x) m n = omega arith
 
+    -- its external level 4 lies in its own partition
+    other-outer : partitionOf c p .difi .external ≡ true → (y : ℕ) → y < partitionOf c p .ivfc .level4 .size
+        → getD after (slotOf c p .partition .offset + partitionOf c p .difi .outside + y) 0
+        ≡ getD image (slotOf c p .partition .offset + partitionOf c p .difi .outside + y) 0
+    unfolding Protected ExternalByte InPlace
+    other-outer e y l =
+        stores .bytes _
+        (⊎-elim (protected-not-free image c g _ (inr (inr (inr (inl (p, h, (e, (omega arith, omega arith))))))))
+        (λ w. by (same-or-apart image c g q p there h) (external-inside image c g q _ there (w .1)) (external-inside image c g p _ h (e, (omega arith, omega arith)))))
+      where
+        by : {i : ℕ} → (q ≡ p) ⊎ Apart (slotOf c q .partition) (slotOf c p .partition) → InRange (slotOf c q .partition) i → InRange (slotOf c p .partition) i → ⊥
+        by (inl s) a b = other s
+        by (inr (inl s)) a b = omega arith
+        by (inr (inr s)) a b = omega arith
+
     seen : SameSeen (stagedView c p) (stagedView c p) after image
     unfolding stagedView viewIn masterIn spaceOf
     seen = record {
@@ -165,7 +194,7 @@ module _ (image : List ℕ) (c : Container) (o : opened image ≡ opening.Valid 
       master = λ y l. let m = staged-master image c g p h in
           write-table (spaceOf c) (stagedView c q) image place values write _ (in-table y l m) (off-master y l);
       inner = write-other (spaceOf c) (stagedView c q) image place values write (treeOf c p) (tree-among image c g p h) (trees-apart image c g p q h there other) (not (treeOf c p .live));
-      outer = λ e y l. outside-stays image after c g stores p h e y l;
+      outer = λ e y l. other-outer e y l;
     }
       where
         in-table : (y : ℕ) → y < partitionOf c p .difi .master .size

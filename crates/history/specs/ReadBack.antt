@@ -1,6 +1,6 @@
 -- A write on any image that opens, with any session value: the same rules read it back. The closed statement; proofs/ReadBack.antt proves it.
 use mathlib.Core.Path.{_≡_}
-use Prim.Native.Nat.{ℕ, _<_}
+use Prim.Native.Nat.{ℕ, _≤_, _<_}
 use mathlib.Core.Bool.{true, false, _||_}
 use mathlib.Core.List.{List}
 use lib.ListN.{length}
@@ -13,19 +13,25 @@ use Rattle.ivfc.specs.Blocks.{parent}
 use Rattle.ivfc.specs.Views.{levelOf, contentOf, verified}
 use Rattle.update.specs.Writing.{Held}
 use Rattle.update.specs.Staged.{plainlyWritten, holdsZero}
-use Rattle.views.specs.Places.{partitions, committedView, stagedView}
+use Rattle.views.specs.Places.{partitions, partitionOf, committedView, stagedView}
 use Rattle.steps.specs.declared.Session.{Session}
 use Rattle.steps.specs.Sessions.{idle}
 use Rattle.steps.specs.Calls.{write}
 use Rattle.history.specs.Model.{Accepted, Dropped, endingOf}
 use Rattle.views.specs.Versions.{versionOf}
-use Rattle.history.specs.Theorem.{Left}
+use Rattle.history.specs.External.{InPlace, LeftBut, AlikeIn}
 
 -- what a write to partition q that was not refused leaves of an image, whatever its digests are
 pub record Leaves (c : Container) (q place : ℕ) (bytes image after : List ℕ) : Type 0 where
-  -- it stores to free bytes alone, so that each committed view stays
-  pub free : Left c image after
-  pub committed : (p : ℕ) → p < partitions c → versionOf (committedView c p) after ≡ versionOf (committedView c p) image
+  -- it stores to free bytes and, where level 4 is external, in place to the written range
+  pub stores : LeftBut (InPlace c q place (length bytes)) c image after
+  -- so each committed view stays, but for the bytes that were written in place: the hash levels stay, and each block that they don't touch
+  pub committed : (p : ℕ) → p < partitions c → (q ≡ p → partitionOf c p .difi .external ≡ false)
+      → versionOf (committedView c p) after ≡ versionOf (committedView c p) image
+  pub entries : (p : ℕ) → p < partitions c → (i y : ℕ) → i ≤ 3 → y < levelOf (committedView c p) i .size
+      → contentOf (committedView c p) after i y ≡ contentOf (committedView c p) image i y
+  pub untouched : (b : ℕ) → b < blocks (committedView c q .level4) → touches (committedView c q .level4) place (length bytes) b ≡ false
+      → AlikeIn b (versionOf (committedView c q) after) (versionOf (committedView c q) image)
   -- what is staged of the other partition stays
   pub others : (p : ℕ) → p < partitions c → (q ≡ p → ⊥) → versionOf (stagedView c p) after ≡ versionOf (stagedView c p) image
   -- level 4's bytes are laid over what was staged
@@ -43,7 +49,7 @@ pub record Leaves (c : Container) (q place : ℕ) (bytes image after : List ℕ)
 pub record Accepts (c : Container) (q place : ℕ) (bytes image after : List ℕ) (before left : Session) : Type 0 where
   pub leaves : Leaves c q place bytes image after
   pub sound : holdsZero (stagedView c q) place bytes after ≡ false
-  pub stands : (b : ℕ) → b < blocks (stagedView c q .level4)
+  pub vouched : (b : ℕ) → b < blocks (stagedView c q .level4)
       → verified (stagedView c q) after 4 b ≡ (touches (stagedView c q .level4) place (length bytes) b || verified (stagedView c q) image 4 b)
   pub session : left ≡ before
 

@@ -3,7 +3,7 @@ use mathlib.Core.Path.{_≡_}
 use Prim.Native.Nat.{ℕ, _+_, _≤_, _<_}
 use mathlib.Core.Bool.{Bool, true, false}
 use mathlib.Core.List.{List, [], _∷_, _++_}
-use mathlib.Core.Logic.{_⊎_}
+use mathlib.Core.Logic.{_⊎_, _↔_}
 use mathlib.Core.Option.{none, some}
 use Rattle.number.specs.declared.Level.{Level}
 use Rattle.number.specs.Blocks.{blocks, blockOf}
@@ -25,9 +25,10 @@ use Rattle.faults.specs.Faults.{kept, faults, countFaults}
 use Rattle.faults.specs.Laws.{ofLevel}
 use Rattle.signing.specs.declared.Signer.{Signer}
 use Rattle.signing.specs.Calls.{signed, outcomeOf}
-use Rattle.history.specs.Model.{Form, Plain, Signed, Query, Call, Ask, Begin, Commit, Abandon, Answer, Stepping, Accepted, Event, Model, followed, unverified, says}
+use Rattle.history.specs.Model.{Form, Plain, Signed, Query, Call, Ask, Begin, Commit, Abandon, Answer, Stepping, Accepted, Event, Model, followed, unverified, says, Did}
 use Rattle.save.specs.Calls.{holdsSave, namesOf, listNames, fileOf, findFile}
 use Rattle.views.specs.Versions.{Version, versionOf}
+use Rattle.history.specs.External.{InPlaceBy, InPlaceOf, ProtectedBut, LeftBut, SameAnswersBut, There, StartThere}
 use Rattle.history.specs.Run.{State, openedAs, perform, ruled, next, after, events, begins, commits, lastValue}
 
 -- an image that opens, with a partition p whose level 4 is internal
@@ -81,43 +82,31 @@ HistoryTheorem = (p : ℕ) (st : State) (start : Start p st) (calls : List Call)
 -- ---- power failure
 
 -- Power may fail between any two calls or inside one. Until the unit of a commit lands, whole and last, the image that is left is any that
--- agrees with the list's first one on the bytes that are not free; once it has landed, it is the one that the commit left. The unit of a plain
--- commit is its header, 0x100 to 0x1FF; that of a signed one the first 0x200 bytes.
-
--- opening, plain and under every key and signer, the committed reads and questions of every partition, the fault list, signing, and the names of
--- a save answer alike
-pub record SameAnswers (image left : List ℕ) : Type 0 where
-  pub opening : (form : Form) → openedAs form left ≡ openedAs form image
-  pub reads : (q place : ℕ) (buffer : List ℕ) → readCommitted left q place buffer ≡ readCommitted image q place buffer
-  pub questions : (q b : ℕ) → isVerified left q b ≡ isVerified image q b
-  pub counts : (q : ℕ) → countVerified left q ≡ countVerified image q
-  pub faultCount : countFaults left ≡ countFaults image
-  pub faultList : faults left ≡ faults image
-  pub signing : (signer : Signer) → signed left signer ≡ signed image signer
-  pub names : (row : List ℕ) → listNames left row ≡ listNames image row
-  pub finds : (folder : ℕ) (name : List ℕ) → findFile left folder name ≡ findFile image folder name
-
--- an image that has another one's bytes where they are not free
-abbrev pub Left : Container → (image left : List ℕ) → Type 0
-Left c image left = Keeps (Free (spaceOf c) image) image left
+-- agrees with the list's first one on the bytes that are neither free nor written in place by the list; once it has landed, it is the one that the
+-- commit left. The unit of a plain commit is its header, 0x100 to 0x1FF; that of a signed one the first 0x200 bytes.
 
 pub record CrashTheorem : Type 0 where
-  -- whichever of the stores to free bytes have landed, the image that is left answers as the first did
-  pub answers : (image left : List ℕ) (c : Container) → opened image ≡ opening.Valid c → Left c image left → SameAnswers image left
+  -- the bytes that are neither free nor written in place by a list are those of 01's list of what only commit changes, without the latter
+  pub protects : (image : List ℕ) (c : Container) (list : List Event) → opened image ≡ opening.Valid c → (i : ℕ)
+      → ProtectedBut (InPlaceOf c list) c image i ↔ ((Free (spaceOf c) image i ⊎ InPlaceOf c list i) → ⊥)
+  -- whichever of the stores to free bytes, and in place, have landed, the image that is left answers as the first did, but of the blocks that the list
+  -- wrote to in place
+  pub answers : (image left : List ℕ) (c : Container) (list : List Event) → opened image ≡ opening.Valid c → LeftBut (InPlaceOf c list) c image left
+      → SameAnswersBut c list image left
   -- and until a commit is accepted, no list stores to any other byte
   pub stores : (st : State) (calls : List Call) (c : Container) → opened (st .image) ≡ opening.Valid c → commits (events calls st) ≡ 0
-      → Left c (st .image) (after calls st .image)
+      → LeftBut (InPlaceOf c (events calls st)) c (st .image) (after calls st .image)
 
 -- what a commit stores of its unit: the header, and the signature where it is signed; the bytes from 0x10 to 0xFF are left alone
 abbrev pub InUnit : Form → (i : ℕ) → Type 0
 InUnit Plain i = InRange headerRange i
 InUnit (Signed key signer) i = InRange signatureRange i ⊎ InRange headerRange i
 
--- no call but commit, plain or signed, stores to a byte that is not free, whatever session value is handed in; none stores to an image that
--- does not open
+-- no call but commit, plain or signed, stores to a byte that is neither free nor written in place, whatever session value is handed in; none stores
+-- to an image that does not open
 pub record SparingTheorem : Type 0 where
   pub opens : (call : Call) (st : State) (c : Container) → ((form : Form) → call ≡ Commit form → ⊥) → opened (st .image) ≡ opening.Valid c
-      → Left c (st .image) (next call st .image)
+      → LeftBut (InPlaceBy c (Did call (ruled call st))) c (st .image) (next call st .image)
   -- a commit stores to nothing but its unit
   pub unit : (form : Form) (st : State) → Keeps (InUnit form) (st .image) (next (Commit form) st .image)
   pub refused : (call : Call) (st : State) → ((c : Container) → opened (st .image) ≡ opening.Valid c → ⊥) → next call st .image ≡ st .image
@@ -125,18 +114,18 @@ pub record SparingTheorem : Type 0 where
 -- ---- landing
 
 -- level 4 of the committed view: its level, its bytes, its verified blocks
-abbrev pub levelIn : {image : List ℕ} {p : ℕ} → Has image p → Level
+abbrev pub levelIn : {image : List ℕ} {p : ℕ} → There image p → Level
 levelIn {image} {p} has = committedView (has .container) p .level4
 
-abbrev pub byteIn : {image : List ℕ} {p : ℕ} → Has image p → (i : ℕ) → ℕ
+abbrev pub byteIn : {image : List ℕ} {p : ℕ} → There image p → (i : ℕ) → ℕ
 byteIn {image} {p} has = contentOf (committedView (has .container) p) image 4
 
-abbrev pub verifiedIn : {image : List ℕ} {p : ℕ} → Has image p → (b : ℕ) → Bool
+abbrev pub verifiedIn : {image : List ℕ} {p : ℕ} → There image p → (b : ℕ) → Bool
 verifiedIn {image} {p} has = verified (committedView (has .container) p) image 4
 
--- partition p of the image that a commit left, against that of the list's first one
-pub record Landed (p : ℕ) (calls : List Event) (first last : List ℕ) (old : Has first p) : Type 0 where
-  pub new : Has last p
+-- partition p, of either kind, of the image that a commit left, against that of the list's first one
+pub record Landed (p : ℕ) (calls : List Event) (first last : List ℕ) (old : There first p) : Type 0 where
+  pub new : There last p
   pub level : levelIn new ≡ levelIn old
   -- every byte of an accepted write reads back with its last value, and its block is verified
   pub inside : (i value : ℕ) → lastValue p i calls ≡ some value → i < levelIn old .size
@@ -151,7 +140,7 @@ pub record Landed (p : ℕ) (calls : List Event) (first last : List ℕ) (old : 
 
 pub record LandingTheorem : Type 0 where
   -- once a commit is accepted, in a list with at most one accepted begin
-  pub landed : (p : ℕ) (st : State) (start : Start p st) (calls : List Call) → begins (events calls st) ≤ 1 → 0 < commits (events calls st)
+  pub landed : (p : ℕ) (st : State) (start : StartThere p st) (calls : List Call) → begins (events calls st) ≤ 1 → 0 < commits (events calls st)
       → Landed p (events calls st) (st .image) (after calls st .image) (start .has)
   -- the state stays as that commit left it
   pub settled : (st : State) (before rest : List Call) (form : Form) → st .session .begun ≡ false

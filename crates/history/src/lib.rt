@@ -4,9 +4,17 @@
 // refused in views, dpfs, update, steps and container already.
 // - history: begin_stages_nothing, commit_lands_nothing, commit_keeps_staged, abandon_keeps_staged, staged_read_while_idle,
 //   untouched_block_refused, write_to_any_partition;
-// - crash: every_byte_free;
-// - landing: first_value_wins, write_marks_nothing.
+// - crash: every_byte_free, dropped_stores_nothing;
+// - landing: first_value_wins, write_marks_nothing;
+// - a partition of either kind: write_in_place_loosens_nothing, dropped_loosens_nothing;
+// - step back: signature_not_renewed;
+// - term: crash_keeps_session, commit_appends_nothing, revert_removes_nothing, version_forgets_verified.
+ghost use Rattle.history.specs.External.{EitherTheorem};
+ghost use Rattle.history.specs.External.{InPlaceTheorem};
+ghost use Rattle.history.specs.Former.{Former};
 ghost use Rattle.history.specs.ReadBack.{ReadBack};
+ghost use Rattle.history.specs.Term.{RevertTheorem};
+ghost use Rattle.history.specs.Term.{TermTheorem};
 ghost use Rattle.history.specs.Theorem.{Demand3};
 
 // Demand 3 holds: the check of this crate asks for the theorem by its statement, not by a proof's name.
@@ -17,4 +25,29 @@ pub fn demand3()
 // So does what a write leaves.
 pub fn read_back()
     ensures { λ _. ⌜ ReadBack ⌝ }
+{}
+
+// A write in place leaves the committed hash levels alone.
+pub fn in_place()
+    ensures { λ _. ⌜ InPlaceTheorem ⌝ }
+{}
+
+// For internal partitions demand 3 says what it said before such writes.
+pub fn not_weaker()
+    ensures { λ _. ⌜ Former ⌝ }
+{}
+
+// A partition of either kind follows the model but in the blocks that were written to in place.
+pub fn either_kind()
+    ensures { λ _. ⌜ EitherTheorem ⌝ }
+{}
+
+// A revert gives back the image before the commit.
+pub fn step_back()
+    ensures { λ _. ⌜ RevertTheorem ⌝ }
+{}
+
+// A whole term follows its list of versions.
+pub fn term()
+    ensures { λ _. ⌜ TermTheorem ⌝ }
 {}

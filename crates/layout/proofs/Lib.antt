@@ -5,3 +5,4 @@ pub mod PartitionLaws
 pub mod GuaranteeLaws
 pub mod FrameLaws
 pub mod LogLaws
+pub mod UnderLaws

@@ -1,7 +1,7 @@
 -- The paper's number of each refusal, and the value that it carries.
 use Prim.Native.Nat.{ℕ}
 use Rattle.layout.specs.declared.Refusal.{Refusal}
-use Rattle.layout.specs.declared.Refusal.the-variants.{Length, Format, Selection, Geometry, TableHash, Descriptor, Placement, NoPartition, OutOfRange, Unverified, ExternalLevel, SessionState, Stale, SignerKind, Signature, DigestTooLong, InvalidEntry, NoSave, BlankSize}
+use Rattle.layout.specs.declared.Refusal.the-variants.{Length, Format, Selection, Geometry, TableHash, Descriptor, Placement, NoPartition, OutOfRange, Unverified, SessionState, Stale, SignerKind, Signature, DigestTooLong, InvalidEntry, NoSave, BlankSize, NothingToRevert}
 
 abbrev pub number : Refusal → ℕ
 number Length = 1
@@ -14,7 +14,6 @@ number Placement = 7
 number NoPartition = 8
 number OutOfRange = 9
 number (Unverified block) = 10
-number ExternalLevel = 12
 number SessionState = 13
 number Stale = 14
 number SignerKind = 15
@@ -22,6 +21,7 @@ number Signature = 16
 number InvalidEntry = 18
 number NoSave = 19
 number BlankSize = 20
+number NothingToRevert = 21
 number DigestTooLong = 22
 
 -- 10 carries the lowest block number of level 4 to which it applies, others carry 0
@@ -36,7 +36,6 @@ carried Placement = 0
 carried NoPartition = 0
 carried OutOfRange = 0
 carried (Unverified block) = block
-carried ExternalLevel = 0
 carried SessionState = 0
 carried Stale = 0
 carried SignerKind = 0
@@ -44,4 +43,5 @@ carried Signature = 0
 carried InvalidEntry = 0
 carried NoSave = 0
 carried BlankSize = 0
+carried NothingToRevert = 0
 carried DigestTooLong = 0

@@ -36,8 +36,6 @@ pub enum Refusal {
     OutOfRange,
     // A block of level 4 that is not verified.
     Unverified(u64),
-    // A write to a partition with external level 4.
-    ExternalLevel,
     // Idle where begun is needed, or begun where idle is.
     SessionState,
     // The header or the inactive table is not as the session left it.
@@ -52,6 +50,8 @@ pub enum Refusal {
     NoSave,
     // A blank image of no such number of blocks, or a lent image that is not just as long.
     BlankSize,
+    // A revert where the session remembers no commit, or the image is not as that commit left it.
+    NothingToRevert,
     // A running digest whose total is, or would be, past the longest message.
     DigestTooLong,
 }

@@ -17,7 +17,7 @@ use super::tables::table_matches;
 use limits::length_allowed;
 use number::ranges::part_of;
 ghost use mathlib.Core.Path.{_≡_};
-ghost use Rattle.layout.specs.Opening.{judgedSlot, afterA, afterTable, opened};
+ghost use Rattle.layout.specs.Opening.{judgedSlot, afterA, afterTable, opened, openedUnder};
 
 // A partition, judged by its descriptor in the active table.
 fn judge_slot(table: &[u8], slot: Slot) -> JudgedPartition
@@ -71,6 +71,20 @@ pub fn open(image: &[u8]) -> Opened
         return Opened::Refused(Refusal::Length);
     }
     let head = &image[HEADER..FRONT];
+    match judge_header(length, head) {
+        JudgedHeader::GoodHeader(h) => open_table(h, head, active_table(image, h)),
+        JudgedHeader::BadHeader(r) => Opened::Refused(r),
+    }
+}
+
+// The same of an image under another header than its own.
+pub fn open_under(image: &[u8], head: &[u8]) -> Opened
+    ensures { λ r. ⌜ r ≡ openedUnder (now (head .entry)) (now (image .entry)) ⌝ }
+{
+    let length = image.len() as u64;
+    if !length_allowed(length) {
+        return Opened::Refused(Refusal::Length);
+    }
     match judge_header(length, head) {
         JudgedHeader::GoodHeader(h) => open_table(h, head, active_table(image, h)),
         JudgedHeader::BadHeader(r) => Opened::Refused(r),

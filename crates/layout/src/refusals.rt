@@ -17,7 +17,6 @@ pub fn number_of(r: Refusal) -> u64
         Refusal::NoPartition => 8,
         Refusal::OutOfRange => 9,
         Refusal::Unverified(_) => 10,
-        Refusal::ExternalLevel => 12,
         Refusal::SessionState => 13,
         Refusal::Stale => 14,
         Refusal::SignerKind => 15,
@@ -25,6 +24,7 @@ pub fn number_of(r: Refusal) -> u64
         Refusal::InvalidEntry => 18,
         Refusal::NoSave => 19,
         Refusal::BlankSize => 20,
+        Refusal::NothingToRevert => 21,
         Refusal::DigestTooLong => 22,
     }
 }
@@ -44,7 +44,6 @@ pub fn carried_by(r: Refusal) -> u64
         Refusal::NoPartition => 0,
         Refusal::OutOfRange => 0,
         Refusal::Unverified(block) => block,
-        Refusal::ExternalLevel => 0,
         Refusal::SessionState => 0,
         Refusal::Stale => 0,
         Refusal::SignerKind => 0,
@@ -52,6 +51,7 @@ pub fn carried_by(r: Refusal) -> u64
         Refusal::InvalidEntry => 0,
         Refusal::NoSave => 0,
         Refusal::BlankSize => 0,
+        Refusal::NothingToRevert => 0,
         Refusal::DigestTooLong => 0,
     }
 }

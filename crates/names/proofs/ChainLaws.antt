@@ -10,7 +10,7 @@ use native.Mathlib.Nat.{mul-le-mul-right}
 use native.Mathlib.Numerals.{add-one, sub-one}
 use native.Mathlib.Omega.{arith}
 use native.Mathlib.Decide.{ℕ-discrete}
-use lib.Dec.{eqb, leb}
+use lib.Dec.{eqb}
 use borrow.Author.Tests.{eq-eqb, ne-eqb}
 use Rattle.names.specs.declared.Save.{Save}
 use Rattle.names.specs.declared.Reach.{Reach}
@@ -20,9 +20,9 @@ use Rattle.names.specs.declared.Search.the-variants as search
 use Rattle.names.specs.declared.Link.{Link}
 use Rattle.names.specs.declared.Link.the-variants as link
 use Rattle.names.specs.Marks.{left}
-use Rattle.names.specs.Entries.{admit, readAt, place}
-use Rattle.names.specs.Listing.{Entry, folder, file, seenFile}
-use Rattle.names.specs.Searching.{named, nextInBucket, linked, along, linkAt, chainIn, chain, counted}
+use Rattle.names.specs.Entries.{admit, place}
+use Rattle.names.specs.Listing.{Entry, file, seenFile}
+use Rattle.names.specs.Searching.{linked, along, linkAt, chainIn, chain, counted}
 use Rattle.names.proofs.MarkLaws.{left-fewer, left-le}
 use Rattle.names.proofs.EntryLaws.{admit-at}
 

@@ -2,26 +2,15 @@
 use mathlib.Core.Path.{_≡_, refl, sym, ap, _∙_}
 use mathlib.Core.Bool.{Bool, true, false, not, cond, _||_, true≢false}
 use mathlib.Core.List.{List}
-use Prim.Native.Nat.{ℕ, zero, suc, _+_, _-_, _*_, _/_, _^_, _≤_, _<_}
+use Prim.Native.Nat.{ℕ, suc, _+_, _-_, _*_, _/_, _^_, _≤_, _<_}
 use native.Mathlib.Omega.{arith}
-use native.Mathlib.Nat.{mul-le-mul-left, mul-suc, le-div-iff-mul-le, div-mul-le-self, div-le-self}
-use lib.Pow.{pow-pos}
-use native.Mathlib.Numerals.{add-one}
-use lib.Dec.{leb, ltb, eqb}
-use lib.ListN.{getD}
-use borrow.Author.Tests.{leb-false, eq-eqb, ne-eqb, lt-ltb, le-ltb}
+use native.Mathlib.Nat.{mul-le-mul-left, mul-suc}
+use lib.Dec.{leb, ltb}
+use borrow.Author.Tests.{leb-false, lt-ltb, le-ltb}
 use Rattle.names.specs.declared.Table.{Table}
-use Rattle.names.specs.declared.Reach.{Reach}
 use Rattle.names.specs.declared.Reach.the-variants as reach
 use Rattle.ivfc.specs.Verified.{firstNot}
 use Rattle.names.specs.Entries.{verified, lowest, readAt, admit, place}
-
-div-mono : (a b k : ℕ) → a ≤ b → a / 2 ^ k ≤ b / 2 ^ k
-div-mono a b k h = le-div-iff-mul-le {k = 2 ^ k} {x = a / 2 ^ k} {y = b} (pow-pos k) .1 (omega (arith, div-mul-le-self a (2 ^ k)))
-
--- the blocks that some bytes touch
-pub touched : (at n log : ℕ) → 1 ≤ n → at + n < 2 ^ 64 → (at / 2 ^ log ≤ (at + n - 1) / 2 ^ log) × ((at + n - 1) / 2 ^ log + 1 < 2 ^ 64)
-touched at n log o h = (div-mono at (at + n - 1) log (omega arith), omega (arith, div-le-self (at + n - 1) (2 ^ log)))
 
 pub read-yes : (stands : List Bool) (log at n b : ℕ) → b ≡ firstNot (verified stands) (at / 2 ^ log) (suc ((at + n - 1) / 2 ^ log) - at / 2 ^ log)
     → (at + n - 1) / 2 ^ log < b → reach.At at ≡ readAt stands log at n

@@ -2,12 +2,12 @@
 use mathlib.Core.Path.{_≡_, refl, sym, ap, ap₂, subst, _∙_}
 use mathlib.Core.Bool.{Bool, true, false, not, cond, _&&_, true≢false}
 use mathlib.Core.List.{List}
-use Prim.Native.Nat.{ℕ, suc, _+_, _-_, _*_, _^_, _≤_, _<_}
+use Prim.Native.Nat.{ℕ, _+_, _-_, _*_, _^_, _≤_, _<_}
 use native.Mathlib.Omega.{arith}
 use native.Mathlib.Nat.{mul-le-mul, pos-of-ne-zero}
-use lib.Dec.{eqb, leb, ltb}
+use lib.Dec.{eqb, ltb}
 use lib.ListN.{length, take}
-use borrow.Author.Tests.{leb-true, eqb-false, not-true, lt-leb, lt-ltb, le-ltb}
+use borrow.Author.Tests.{leb-true, eqb-false, lt-leb, lt-ltb, le-ltb}
 use Rattle.number.specs.Fields.{le32, le64}
 use Rattle.number.specs.Bytes.{sameBytes}
 use Rattle.number.specs.Ranges.{inside}

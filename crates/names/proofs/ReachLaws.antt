@@ -3,17 +3,17 @@ use mathlib.Core.Path.{_≡_, refl, sym, ap, subst, _∙_}
 use mathlib.Core.Bool.{Bool, true, false, cond, _||_, true≢false}
 use mathlib.Core.Logic.{_⊎_, inl, inr, ⊎-elim}
 use mathlib.Core.List.{List, [], _∷_}
-use Prim.Native.Nat.{ℕ, zero, suc, _+_, _≤_, _<_}
+use Prim.Native.Nat.{ℕ, zero, suc}
 use native.Mathlib.Omega.{arith}
 use native.Mathlib.Decide.{ℕ-discrete}
 use lib.Dec.{eqb, ltb}
 use borrow.Author.Tests.{eqb-true, eqb-false, eq-eqb}
 use Rattle.names.specs.declared.Save.{Save}
 use Rattle.names.specs.Entries.{admit, sibling, firstFolder, firstFile, nextFile}
-use Rattle.names.specs.Listing.{Entry, folder, file, Outcome, listed, invalid, unverified, seenFolder, seenFile, next, joins, meetFolder, meetFile, filesIn, files, folderOver, foldersIn, folders, folderAt, listing}
+use Rattle.names.specs.Listing.{Entry, folder, file, listed, invalid, seenFolder, seenFile, next, meetFolder, meetFile, filesIn, files, folderOver, foldersIn, folders, folderAt, listing}
 use Rattle.names.specs.Reachable.{Subfolder, ofRoot, below, beside, Folder, File, inside, after, Once, Complete}
 use Rattle.names.proofs.EntryLaws.{admit-at}
-use Rattle.names.proofs.FuelLaws.{next-listed, joins-listed, folder-met, file-met, files-keep}
+use Rattle.names.proofs.FuelLaws.{next-listed, joins-listed}
 
 or-cases : (a b : Bool) → (a || b) ≡ true → (a ≡ true) ⊎ (b ≡ true)
 or-cases true b h = inl refl

@@ -1,5 +1,5 @@
 -- What a listing leaves in the row: each name's record at its place while there is room, and every other byte as it was. Assumes nothing.
-use mathlib.Core.Path.{_≡_, refl, sym, ap, _∙_}
+use mathlib.Core.Path.{_≡_, refl, ap, _∙_}
 use mathlib.Core.Bool.{Bool, true, false, cond}
 use mathlib.Core.Logic.{inl, inr}
 use mathlib.Core.List.{List, [], _∷_}
@@ -8,7 +8,7 @@ use native.Mathlib.Omega.{arith}
 use lib.Dec.{ltb}
 use lib.ListN.{length, getD}
 use lib.Seq.{sets, length-sets}
-use borrow.Author.Tests.{lt-ltb, ltb-true}
+use borrow.Author.Tests.{lt-ltb}
 use Rattle.number.specs.Bytes.{Outside}
 use Rattle.number.proofs.ListLaws.{length-bytes, sets-out, sets-in}
 use Rattle.names.specs.declared.Save.{Save}

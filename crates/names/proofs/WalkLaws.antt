@@ -1,12 +1,11 @@
 -- The code's walk, step by step. Assumes nothing.
 use mathlib.Core.Path.{_≡_, refl, sym, ap, ap₂, _∙_}
-use mathlib.Core.Bool.{Bool, true, false, cond, _||_}
+use mathlib.Core.Bool.{Bool, cond, _||_}
 use mathlib.Core.Logic.{⊎-elim}
 use mathlib.Core.List.{List, [], _∷_, _++_}
-use Prim.Native.Nat.{ℕ, zero, suc, _+_, _*_, _≤_, _<_}
+use Prim.Native.Nat.{ℕ, suc, _+_, _≤_, _<_}
 use native.Mathlib.Omega.{arith}
-use native.Mathlib.Numerals.{add-one}
-use lib.Dec.{eqb, ltb}
+use lib.Dec.{eqb}
 use lib.ListN.{length, replicate, length-replicate}
 use native.Mathlib.Nat.{mul-le-mul-right}
 use types.Run.{OneOf}
@@ -19,12 +18,12 @@ use Rattle.names.specs.declared.Reach.{Reach}
 use Rattle.names.specs.declared.Reach.the-variants as reach
 use Rattle.names.specs.declared.Walked.{Walked}
 use Rattle.names.specs.declared.Walked.the-variants as walked
-use Rattle.names.specs.Marks.{marked, left}
-use Rattle.names.specs.Entries.{admit, place, name, sibling, firstFolder, firstFile, nextFile}
+use Rattle.names.specs.Marks.{marked}
+use Rattle.names.specs.Entries.{admit, name, sibling, firstFolder, firstFile, nextFile}
 use Rattle.names.specs.Listing.{Entry, folder, file, Outcome, listed, invalid, unverified, seenFolder, seenFile, next, joins, meetFolder, meetFile, files, folders, folderAt, listing}
-use Rattle.names.specs.Records.{head, entryRecord, putRecord, laid}
-use Rattle.names.specs.Walks.{Marks, metBy, leaves, answerOf, Holds, Leaves, Walks, unvisited, Goes, Fewer, Ready, Listable, Lays, rowAfter}
-use Rattle.names.proofs.MarkLaws.{left-fewer, left-same, left-le, zeros-unmarked}
+use Rattle.names.specs.Records.{head, entryRecord, putRecord, laid, rowAfter}
+use Rattle.names.specs.Walks.{Marks, metBy, leaves, answerOf, Holds, Leaves, Walks, unvisited, Goes, Fewer, Ready, Listable, Lays}
+use Rattle.names.proofs.MarkLaws.{left-fewer, left-le, zeros-unmarked}
 use Rattle.names.proofs.EntryLaws.{admit-at}
 use Rattle.names.proofs.FuelLaws.{files-rule, folders-rule, folder-rule}
 

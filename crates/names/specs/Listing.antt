@@ -1,11 +1,9 @@
 -- W11's listing: a folder is listed by its own entry, by its files in sibling order, then by each subfolder, which is listed in the same way.
-use Prim.Native.Nat.{ℕ, zero, suc, _+_, _*_}
-use mathlib.Core.Bool.{Bool, true, false, cond, _||_}
-use mathlib.Core.List.{List, [], _∷_, _++_, reverse}
-use lib.Dec.{leb, ltb, eqb}
-use lib.ListN.{length}
+use Prim.Native.Nat.{ℕ, zero, suc}
+use mathlib.Core.Bool.{Bool, false, cond, _||_}
+use mathlib.Core.List.{List, [], _∷_}
+use lib.Dec.{ltb, eqb}
 use Rattle.names.specs.declared.Save.{Save}
-use Rattle.names.specs.declared.Table.{Table}
 use Rattle.names.specs.declared.Reach.{Reach}
 use Rattle.names.specs.declared.Reach.the-variants as reach
 use Rattle.names.specs.Entries.{admit, sibling, firstFolder, firstFile, nextFile}
@@ -49,7 +47,7 @@ module _ (s : Save) (level4 : List ℕ) (stands : List Bool) where
   abbrev pub meetFile : ℕ → List Entry → Outcome
   meetFile f met = joins (admit stands (s .log) (s .files) (seenFile met f) f) (file f ∷ met)
 
-  -- the files from f on, in sibling order. The first argument bounds the steps: `Fuel` shows that it never decides.
+  -- the files from f on, in sibling order. The first argument bounds the steps: proofs/FuelLaws.antt shows that it never decides.
   unfoldable pub filesIn : (steps : ℕ) → (f : ℕ) → List Entry → Outcome
   filesIn zero f met = invalid
   filesIn (suc n) f met = cond (eqb f 0) (listed met) (next (meetFile f met) (filesIn n (nextFile s level4 f)))

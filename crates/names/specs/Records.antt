@@ -1,6 +1,6 @@
 -- The lent row: records of 24 bytes, each the kind (0 folder, 1 file) and the entry number, of 4 bytes each with the least significant first, and
 -- the 16 name bytes.
-use Prim.Native.Nat.{ℕ, suc, _+_, _*_, _/_, _%_}
+use Prim.Native.Nat.{ℕ, _+_, _*_, _/_, _%_}
 use mathlib.Core.Bool.{cond}
 use mathlib.Core.List.{List, [], _∷_, _++_}
 use lib.Dec.{ltb}
@@ -8,7 +8,7 @@ use lib.ListN.{length}
 use lib.Seq.{sets}
 use Rattle.names.specs.declared.Save.{Save}
 use Rattle.names.specs.Entries.{name}
-use Rattle.names.specs.Listing.{Entry, folder, file}
+use Rattle.names.specs.Listing.{Entry, folder, file, Outcome, listed, invalid, unverified}
 
 abbrev pub head : (kind e : ℕ) → List ℕ
 head kind e = kind ∷ 0 ∷ 0 ∷ 0 ∷ e % 0x100 ∷ e / 0x100 % 0x100 ∷ e / 0x10000 % 0x100 ∷ e / 0x1000000 % 0x100 ∷ []
@@ -25,3 +25,9 @@ putRecord row i r = cond (ltb i (length row / 24)) (sets row (24 * i) r) row
 unfoldable pub laid : Save → List ℕ → (row : List ℕ) → List Entry → List ℕ
 laid s level4 row [] = row
 laid s level4 row (e ∷ met) = putRecord (laid s level4 row met) (length met) (entryRecord s level4 e)
+
+-- the row after a listing: the names, or as it was where the listing is refused
+abbrev pub rowAfter : Save → (level4 row : List ℕ) → Outcome → List ℕ
+rowAfter s level4 row (listed met) = laid s level4 row met
+rowAfter s level4 row invalid = row
+rowAfter s level4 row (unverified b) = row

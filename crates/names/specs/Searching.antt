@@ -56,7 +56,7 @@ module _ (s : Save) (level4 : List ℕ) (stands : List Bool) (parent : ℕ) (wan
   unfoldable pub linkAt : (again : Bool) → ℕ → Link
   linkAt again f = cond (eqb f 0) (link.Last search.Nothing) (linked (admit stands (s .log) (s .files) again f) f)
 
-  -- the chain from f on, with the entries met so far. The first argument bounds the steps: `ChainLaws` shows that it never decides.
+  -- the chain from f on, with the entries met so far. The first argument bounds the steps: proofs/ChainLaws.antt shows that it never decides.
   unfoldable pub chainIn : (steps : ℕ) → (f : ℕ) → List Entry → Search
   chainIn zero f met = search.Invalid
   chainIn (suc n) f met = along (linkAt (seenFile met f) f) (λ g. chainIn n g (file f ∷ met))

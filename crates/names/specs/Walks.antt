@@ -1,8 +1,8 @@
 -- What the code's state has to do with the definition: marks, count and row stand for the entries met so far.
-use Prim.Native.Nat.{ℕ, suc, _+_, _*_, _≤_, _<_}
+use Prim.Native.Nat.{ℕ, _+_, _*_, _≤_, _<_}
 use mathlib.Core.Path.{_≡_}
-use mathlib.Core.Bool.{Bool, _||_}
-use mathlib.Core.List.{List, [], _∷_, _++_}
+use mathlib.Core.Bool.{_||_}
+use mathlib.Core.List.{List, _++_}
 use lib.Dec.{eqb}
 use lib.ListN.{length}
 use Rattle.number.specs.Bytes.{bytes}
@@ -13,7 +13,7 @@ use Rattle.names.specs.declared.Reach.the-variants as reach
 use Rattle.names.specs.declared.Walked.{Walked}
 use Rattle.names.specs.declared.Walked.the-variants as walked
 use Rattle.names.specs.Marks.{marked, left}
-use Rattle.names.specs.Entries.{admit, name}
+use Rattle.names.specs.Entries.{name}
 use Rattle.names.specs.Listing.{Entry, Outcome, listed, invalid, unverified, seenFolder, seenFile}
 use Rattle.names.specs.Records.{head, putRecord, laid}
 
@@ -107,9 +107,3 @@ abbrev pub Lays : Save → (level4 row : List ℕ) → Outcome → (after : List
 Lays s level4 row (listed met) after = after ≡ laid s level4 row met
 Lays s level4 row invalid after = Unit {0}
 Lays s level4 row (unverified b) after = Unit {0}
-
--- the row after a call: the names, or as it was where the listing is refused
-abbrev pub rowAfter : Save → (level4 row : List ℕ) → Outcome → List ℕ
-rowAfter s level4 row (listed met) = laid s level4 row met
-rowAfter s level4 row invalid = row
-rowAfter s level4 row (unverified b) = row

@@ -4,10 +4,21 @@ ghost use mathlib.Core.Path.{_≡_};
 ghost use Prim.Native.Nat.{ℕ, suc, _<_};
 ghost use Rattle.names.specs.Searching.{round, rounds, bucket};
 
+// A byte of a name counts as 0 to 255.
+fn unsigned(x: u8) -> u32
+    ensures { λ r. ⌜ r ≡ x ⌝ }
+{
+    x as u32
+}
+
 fn stir(h: u32, a: u8, b: u8, c: u8, d: u8) -> u32
     ensures { λ r. ⌜ r ≡ round h a b c d ⌝ }
 {
-    ((h >> 1) | (h << 31)) ^ a as u32 ^ ((b as u32) << 8) ^ ((c as u32) << 16) ^ ((d as u32) << 24)
+    ((h >> 1) | (h << 31))
+        ^ unsigned(a)
+        ^ (unsigned(b) << 8)
+        ^ (unsigned(c) << 16)
+        ^ (unsigned(d) << 24)
 }
 
 // Round i, with bytes 4 i to 4 i + 3 of the name.

@@ -1,42 +1,40 @@
 -- The two calls, by the checks that lead to each answer. Assumes nothing.
 use Prim.Native.Nat.{ℕ, _+_, _*_, _≤_, _<_}
 use mathlib.Core.Path.{_≡_, refl, sym, ap, _∙_}
-use mathlib.Core.Bool.{Bool, true, false, not, cond, _&&_, true≢false}
+use mathlib.Core.Bool.{true, false, not, true≢false}
 use mathlib.Core.List.{List}
 use native.Mathlib.Omega.{arith}
 use lib.Dec.{eqb, ltb}
 use lib.ListN.{length, replicate}
 use borrow.Author.Tests.{eqb-true, lt-ltb, not-true}
 use Rattle.number.proofs.Tests.{and-left, and-right}
-use Rattle.layout.specs.declared.Kind.{Kind}
 use Rattle.layout.specs.declared.Container.{Container}
 use Rattle.layout.specs.declared.Opened.{Opened}
 use Rattle.layout.specs.declared.Opened.the-variants as opening
 use Rattle.layout.specs.declared.Refusal.{Refusal}
-use Rattle.layout.specs.declared.Refusal.the-variants.{InvalidEntry, NoSave, Unverified}
+use Rattle.layout.specs.declared.Refusal.the-variants.{NoSave}
 use Rattle.layout.specs.Opening.{opened}
 use Rattle.ivfc.specs.declared.View.{View}
 use Rattle.ivfc.specs.Rules.{ViewRules}
-use Rattle.views.specs.Places.{partitions, slotOf, partitionOf, viewIn, committedView}
-use Rattle.views.specs.Versions.{Version, versionOf}
+use Rattle.views.specs.Places.{partitions, partitionOf, viewIn, committedView}
+use Rattle.views.specs.Versions.{versionOf}
 use Rattle.names.specs.declared.Save.{Save}
 use Rattle.names.specs.declared.SaveOpened.{SaveOpened}
 use Rattle.names.specs.declared.SaveOpened.the-variants as entered
 use Rattle.names.specs.declared.Walked.{Walked}
-use Rattle.names.specs.Marks.{marked}
 use Rattle.names.specs.Listing.{Outcome, listed, invalid, unverified, listing}
 use Rattle.names.specs.Opening.{openSave}
-use Rattle.names.specs.Walks.{answerOf, rowAfter, Listable, Searchable}
+use Rattle.names.specs.Walks.{answerOf, Listable, Searchable}
 use Rattle.names.proofs.MarkLaws.{zeros-unmarked}
 use Rattle.names.proofs.OpenLaws.{valid-listable, valid-searchable}
-use Rattle.entries.specs.Known.{Knows, Legible}
+use Rattle.entries.specs.Known.{Legible}
 use Rattle.entries.proofs.ReadLaws.{length-level4}
 use Rattle.steps.specs.Calls.{refusalOf}
 use Rattle.save.specs.declared.Listed.{Listed}
 use Rattle.save.specs.declared.Listed.the-variants as names
 use Rattle.save.specs.declared.Sought.{Sought}
 use Rattle.save.specs.declared.Sought.the-variants as sought
-use Rattle.save.specs.Calls.{isDisa, holdsSave, Names, unlisted, listedOf, namesIn, namesOf, listNames, fileIn, fileOf, findFile}
+use Rattle.save.specs.Calls.{isDisa, holdsSave, Names, listedOf, namesIn, namesOf, listNames, fileIn, fileOf, findFile}
 use Rattle.save.specs.Answers.{listedBy}
 
 -- ---- which containers hold a save

@@ -22,7 +22,7 @@ use Rattle.names.specs.declared.Search.the-variants as search
 use Rattle.names.specs.Listing.{Outcome, listed, invalid, unverified, listing}
 use Rattle.names.specs.Searching.{found}
 use Rattle.names.specs.Opening.{openSave}
-use Rattle.names.specs.Walks.{rowAfter}
+use Rattle.names.specs.Records.{rowAfter}
 use Rattle.save.specs.declared.Listed.{Listed}
 use Rattle.save.specs.declared.Listed.the-variants as names
 use Rattle.save.specs.declared.Sought.{Sought}

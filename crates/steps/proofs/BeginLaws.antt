@@ -36,7 +36,7 @@ use Rattle.ivfc.specs.Rules.{ViewRules}
 use Rattle.views.specs.Places.{partitions, slotOf, partitionOf, treeOf, masterIn, viewIn, committedView, stagedView, spaceOf}
 use Rattle.views.proofs.PlaceLaws.{present, staged-rules, active-table, inactive-table, tables-apart, tree-rules, space-rules, tree-among, first-there, second-there, third-missing}
 use Rattle.steps.proofs.KeptLaws.{kept-header, kept-active, kept-outer}
-use Rattle.steps.specs.Sessions.{selectorPlace, selectorFlipped, forEach, stagedTable, tableBegun, begunImage, inSomeMaster, allBelow, tableStaged, current}
+use Rattle.steps.specs.Sessions.{begunWith, selectorPlace, selectorFlipped, forEach, stagedTable, tableBegun, begunImage, inSomeMaster, allBelow, tableStaged, current}
 
 -- ---- places
 
@@ -318,7 +318,7 @@ module _ (image : List ℕ) (c : Container) (g : Guarantees image c) where
       (begun-table i h
       ∙ ap (λ (l : List ℕ). getD l i 0) (sym (staged-same (begunImage c image) (kept-active image c g (begunImage c image) begun-only))))))
 
-  pub begun-current : current c (begunImage c image) (record { begun = true; header = headerBytes image }) ≡ true
+  pub begun-current : current c (begunImage c image) (begunWith (headerBytes image)) ≡ true
   unfolding current
   begun-current =
       and-both (sameBytes (headerBytes (begunImage c image)) (headerBytes image)) (tableStaged c (begunImage c image))

@@ -2,6 +2,7 @@ pub mod KeptLaws
 pub mod BeginLaws
 pub mod WriteLaws
 pub mod StageLaws
+pub mod RevertLaws
 pub mod ReadLaws
 pub mod JudgeLaws
 pub mod CallLaws

@@ -5,12 +5,11 @@ use mathlib.Core.List.{List}
 use mathlib.Core.Path.{_≡_, refl, sym, ap, _∙_, subst}
 use lib.Dec.{ltb}
 use lib.ListN.{length}
-use borrow.Author.Tests.{ltb-true}
 use Rattle.layout.specs.declared.Container.{Container}
 use Rattle.layout.specs.declared.Opened.{Opened}
 use Rattle.layout.specs.declared.Opened.the-variants as opening
 use Rattle.layout.specs.declared.Refusal.{Refusal}
-use Rattle.layout.specs.declared.Refusal.the-variants.{NoPartition, ExternalLevel, SessionState, Stale}
+use Rattle.layout.specs.declared.Refusal.the-variants.{NoPartition, SessionState, Stale, NothingToRevert}
 use Rattle.layout.specs.Headers.{headerBytes}
 use Rattle.layout.specs.Opening.{opened}
 use Rattle.layout.specs.Guarantees.{Guarantees}
@@ -27,13 +26,13 @@ use Rattle.layout.specs.declared.Outcome.the-variants as outcome
 use Rattle.steps.specs.declared.Ending.the-variants as ending
 use Rattle.steps.specs.declared.Session.{Session}
 use Rattle.steps.specs.declared.Step.{Step}
-use Rattle.steps.specs.Sessions.{idle, begunImage, current, writeOutcome}
+use Rattle.steps.specs.Sessions.{idle, begunWith, remembering, begunImage, current, writeOutcome, revertible}
 use Rattle.signing.specs.declared.Signer.{Signer}
 use Rattle.signing.specs.Blocks.{signingBlock}
 use Rattle.signing.specs.Calls.{Answer, signed, outcomeOf}
 use Rattle.signing.proofs.AnswerLaws.{refused-is, accepted-is}
-use Rattle.commits.specs.Committing.{committedImage, committedSigned}
-use Rattle.steps.specs.Calls.{refusalOf, After, Stepped, unchanged, done, finished, leaving, begin, writeTo, write, commit, commitSigned, abandon, Abandoned, beginIn, inSession, writeOn, commitOn, commitBy}
+use Rattle.commits.specs.Committing.{committedImage, committedSigned, revertedImage, revertedSigned}
+use Rattle.steps.specs.Calls.{refusalOf, After, Stepped, unchanged, done, finished, leaving, begin, writeTo, write, commit, commitSigned, abandon, Abandoned, beginIn, inSession, writeOn, commitOn, commitBy, landed, reverting, revert, revertBy, revertSigned}
 use Rattle.steps.proofs.WriteLaws.{write-rules}
 
 -- which arm of a test is taken
@@ -91,6 +90,10 @@ module _ (image : List ℕ) (answer : Opened) (a : answer ≡ opened image) (ses
     pub session-unopened : (next : Container → After) → Stepped step image (inSession image session next (opened image))
     session-unopened next = stepped-refused step image session refusal _ (rw is) s
 
+    -- revert and signed revert
+    pub revert-unopened : (next : After) → Stepped step image (reverting image session next (opened image))
+    revert-unopened next = stepped-refused step image session refusal _ (rw is) s
+
   -- ---- one that does
 
   module _ (c : Container) (e : answer ≡ opening.Valid c) where
@@ -101,7 +104,7 @@ module _ (image : List ℕ) (answer : Opened) (a : answer ≡ opened image) (ses
     guaranteed = guarantees image c valid
 
     begun-is : begin image session
-        ≡ cond (session .begun) (unchanged image session SessionState) (done (begunImage c image) (record { begun = true; header = headerBytes image }))
+        ≡ cond (session .begun) (unchanged image session SessionState) (done (begunImage c image) (begunWith (headerBytes image)))
     unfolding begin
     begun-is = ap (beginIn image session) valid
 
@@ -109,10 +112,33 @@ module _ (image : List ℕ) (answer : Opened) (a : answer ≡ opened image) (ses
     begin-busy b step s = stepped-refused step image session SessionState _ (begun-is ∙ yes-of (session .begun) _ _ b) s
 
     pub begin-done : session .begun ≡ false → (header left : List ℕ) → header ≡ headerBytes image → left ≡ begunImage c image
-        → Stepped (record { outcome = ending.Accepted; session = record { begun = true; header = header } }) left (begin image session)
+        → Stepped (record { outcome = ending.Accepted; session = begunWith header }) left (begin image session)
     begin-done b header left h l =
-        stepped-done _ (begunImage c image) left (record { begun = true; header = headerBytes image }) _ (begun-is ∙ no-of (session .begun) _ _ b) refl
-        (ap (λ (x : List ℕ). record { begun = true; header = x }) h) l
+        stepped-done _ (begunImage c image) left (begunWith (headerBytes image)) _ (begun-is ∙ no-of (session .begun) _ _ b) refl
+        (ap begunWith h) l
+
+    -- revert and signed revert: 13, 21
+    module _ (next : After) where
+      reverting-is : reverting image session next (opened image)
+          ≡ cond (session .begun) (unchanged image session SessionState)
+          (cond (revertible image (session .header) (session .later)) next (unchanged image session NothingToRevert))
+      reverting-is = ap (reverting image session next) valid
+
+      pub revert-busy : session .begun ≡ true → (step : Step) → Refuses step session SessionState → Stepped step image (reverting image session next (opened image))
+      revert-busy b step s = stepped-refused step image session SessionState _ (reverting-is ∙ yes-of (session .begun) _ _ b) s
+
+      module _ (b : session .begun ≡ false) where
+        pub revert-none : revertible image (session .header) (session .later) ≡ false → (step : Step) → Refuses step session NothingToRevert
+            → Stepped step image (reverting image session next (opened image))
+        revert-none n step s =
+            stepped-refused step image session NothingToRevert _
+            (reverting-is ∙ no-of (session .begun) _ _ b ∙ no-of (revertible image (session .header) (session .later)) _ _ n) s
+
+        pub revert-goes-on : revertible image (session .header) (session .later) ≡ true → (step : Step) (left : List ℕ) → Stepped step left next
+            → Stepped step left (reverting image session next (opened image))
+        revert-goes-on y step left s =
+            subst (Stepped step left)
+            (sym (reverting-is ∙ no-of (session .begun) _ _ b ∙ yes-of (revertible image (session .header) (session .later)) _ _ y)) s
 
     -- write, commit and signed commit: 13, 14
     module _ (next : Container → After) where
@@ -146,9 +172,16 @@ write-there image c session q place bytes left m step s = subst (Stepped step le
 
 -- ---- commit, and the signed one with its 15
 
-pub commit-done : (image : List ℕ) (c : Container) (next : Session) (left : List ℕ) → next ≡ idle → left ≡ committedImage c image
-    → Stepped (record { outcome = ending.Accepted; session = next }) left (commitOn image c)
-commit-done image c next left i l = stepped-done _ (committedImage c image) left idle _ refl refl i l
+-- the headers before and after
+remembers : (image after former later left : List ℕ) → former ≡ headerBytes image → later ≡ headerBytes left → left ≡ after
+    → remembering former later ≡ remembering (headerBytes image) (headerBytes after)
+remembers image after former later left f h l = ap (λ (x : List ℕ). remembering x later) f ∙ ap (remembering (headerBytes image)) (h ∙ ap headerBytes l)
+
+pub commit-done : (image : List ℕ) (c : Container) (former later left : List ℕ) → former ≡ headerBytes image → later ≡ headerBytes left → left ≡ committedImage c image
+    → Stepped (record { outcome = ending.Accepted; session = remembering former later }) left (commitOn image c)
+commit-done image c former later left f h l =
+    stepped-done _ (committedImage c image) left (remembering (headerBytes image) (headerBytes (committedImage c image))) _ refl refl
+    (remembers image (committedImage c image) former later left f h l) l
 
 module _ (image : List ℕ) (c : Container) (session : Session) (key : List ℕ) (signer : Signer) (answer : Outcome) (a : answer ≡ outcomeOf (signed image signer)) where
   pub signer-unfit : (r : Refusal) → answer ≡ outcome.Refused r → (step : Step) → Refuses step session r
@@ -156,26 +189,40 @@ module _ (image : List ℕ) (c : Container) (session : Session) (key : List ℕ)
   signer-unfit r e step s =
       stepped-refused step image session r _ (ap (λ (x : Answer). commitBy image session key signer x c) (refused-is (signed image signer) r (sym a ∙ e))) s
 
-  pub signed-done : answer ≡ outcome.Accepted → (next : Session) (left : List ℕ) → next ≡ idle → left ≡ committedSigned c image key signer
-      → Stepped (record { outcome = ending.Accepted; session = next }) left (commitBy image session key signer (signed image signer) c)
-  signed-done e next left i l =
-      stepped-done _ (committedSigned c image key signer) left idle _
-      (ap (λ (x : Answer). commitBy image session key signer x c) (accepted-is image signer (sym a ∙ e) .0)) refl i l
+  pub signed-done : answer ≡ outcome.Accepted → (former later left : List ℕ) → former ≡ headerBytes image → later ≡ headerBytes left → left ≡ committedSigned c image key signer
+      → Stepped (record { outcome = ending.Accepted; session = remembering former later }) left (commitBy image session key signer (signed image signer) c)
+  signed-done e former later left f h l =
+      stepped-done _ (committedSigned c image key signer) left (remembering (headerBytes image) (headerBytes (committedSigned c image key signer))) _
+      (ap (λ (x : Answer). commitBy image session key signer x c) (accepted-is image signer (sym a ∙ e) .0)) refl
+      (remembers image (committedSigned c image key signer) former later left f h l) l
+
+-- ---- revert, and the signed one with its 15
+
+pub revert-done : (image : List ℕ) (session next : Session) (former left : List ℕ) → former ≡ session .header → next ≡ idle → left ≡ revertedImage image former
+    → Stepped (record { outcome = ending.Accepted; session = next }) left (done (revertedImage image (session .header)) idle)
+revert-done image session next former left f i l = stepped-done _ (revertedImage image (session .header)) left idle _ refl refl i (l ∙ ap (revertedImage image) f)
+
+module _ (image : List ℕ) (session : Session) (key : List ℕ) (signer : Signer) (answer : Outcome) (a : answer ≡ outcomeOf (signed image signer)) where
+  pub reverter-unfit : (r : Refusal) → answer ≡ outcome.Refused r → (step : Step) → Refuses step session r
+      → Stepped step image (revertBy image session key signer (signed image signer))
+  reverter-unfit r e step s =
+      stepped-refused step image session r _ (ap (revertBy image session key signer) (refused-is (signed image signer) r (sym a ∙ e))) s
+
+  pub revert-signed : answer ≡ outcome.Accepted → (next : Session) (former left : List ℕ) → former ≡ session .header → next ≡ idle
+      → left ≡ revertedSigned image former key signer
+      → Stepped (record { outcome = ending.Accepted; session = next }) left (revertBy image session key signer (signed image signer))
+  revert-signed e next former left f i l =
+      stepped-done _ (revertedSigned image (session .header) key signer) left idle _
+      (ap (revertBy image session key signer) (accepted-is image signer (sym a ∙ e) .0)) refl i (l ∙ ap (λ (x : List ℕ). revertedSigned image x key signer) f)
 
 -- ---- a write to a partition that is there
 
 module _ (image : List ℕ) (c : Container) (g : Guarantees image c) (session : Session) (q : ℕ) (k : q < partitions c) (place : ℕ) (bytes : List ℕ)
     (view : View) (v : view ≡ stagedView c q) where
-  pub write-external : view .external ≡ true → (step : Step) → Refuses step session ExternalLevel → Stepped step image (writeTo c image session q place bytes)
-  write-external e step s = stepped-refused step image session ExternalLevel _ (yes-of (stagedView c q .external) _ _ (ap (λ (x : View). x .external) (sym v) ∙ e)) s
-
   pub view-keeps : ViewRules view (length image)
   view-keeps = rw v (staged-rules image c g q k)
 
-  module _ (e : view .external ≡ false) (answer : Outcome) (a : answer ≡ writeOutcome view image place (length bytes)) where
-    internal : stagedView c q .external ≡ false
-    internal = ap (λ (x : View). x .external) (sym v) ∙ e
-
+  module _ (answer : Outcome) (a : answer ≡ writeOutcome view image place (length bytes)) where
     outcome-is : answer ≡ writeOutcome (stagedView c q) image place (length bytes)
     outcome-is = a ∙ ap (λ (x : View). writeOutcome x image place (length bytes)) v
 
@@ -184,8 +231,7 @@ module _ (image : List ℕ) (c : Container) (g : Guarantees image c) (session : 
 
     whole-is : writeTo c image session q place bytes ≡ leaving answer image session (finished (stagedView c q) place bytes session after)
     whole-is =
-        no-of (stagedView c q .external) _ _ internal
-        ∙ ap (λ (o : Outcome). leaving o image session (finished (stagedView c q) place bytes session after)) (sym outcome-is)
+        ap (λ (o : Outcome). leaving o image session (finished (stagedView c q) place bytes session after)) (sym outcome-is)
 
     pub write-refused : (r : Refusal) → answer ≡ outcome.Refused r → (step : Step) → Refuses step session r → Stepped step image (writeTo c image session q place bytes)
     write-refused r f step s =
@@ -194,7 +240,7 @@ module _ (image : List ℕ) (c : Container) (g : Guarantees image c) (session : 
 
     module _ (f : answer ≡ outcome.Accepted) where
       pub write-asks : (space : Space) → space ≡ spaceOf c → WriteRules space view image place bytes
-      write-asks space s = rw (s, v) (write-rules image c g q k internal place bytes (sym outcome-is ∙ f))
+      write-asks space s = rw (s, v) (write-rules image c g q k place bytes (sym outcome-is ∙ f))
 
       -- what the write has made, and whether it holds a digest that is all zero
       module _ (left : List ℕ) (zero : Bool) (l : left ≡ writtenTo view place bytes image) (z : zero ≡ holdsZero view place bytes left) where

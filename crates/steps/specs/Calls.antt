@@ -2,7 +2,7 @@
 -- a refusal leaves the image, the buffer and the session as they were; a write's 17 alone does not.
 use Prim.Native.Nat.{ℕ}
 use mathlib.Core.Path.{_≡_}
-use mathlib.Core.Bool.{Bool, true, false, not, cond}
+use mathlib.Core.Bool.{not, cond}
 use mathlib.Core.List.{List}
 use lib.ListN.{length}
 use lib.Dec.{ltb}
@@ -10,7 +10,7 @@ use Rattle.layout.specs.declared.Container.{Container}
 use Rattle.layout.specs.declared.Opened.{Opened}
 use Rattle.layout.specs.declared.Opened.the-variants as opening
 use Rattle.layout.specs.declared.Refusal.{Refusal}
-use Rattle.layout.specs.declared.Refusal.the-variants.{Length, NoPartition, ExternalLevel, SessionState, Stale}
+use Rattle.layout.specs.declared.Refusal.the-variants.{Length, NoPartition, SessionState, Stale, NothingToRevert}
 use Rattle.layout.specs.Headers.{headerBytes}
 use Rattle.layout.specs.Opening.{opened}
 use Rattle.ivfc.specs.declared.View.{View}
@@ -27,10 +27,10 @@ use Rattle.steps.specs.declared.Ending.the-variants as ending
 use Rattle.steps.specs.declared.Session.{Session}
 use Rattle.steps.specs.declared.Step.{Step}
 use Rattle.steps.specs.Reading.{Read, readFrom, verdictOn, countIn}
-use Rattle.steps.specs.Sessions.{idle, begunImage, current, writeOutcome}
+use Rattle.steps.specs.Sessions.{idle, begunWith, remembering, begunImage, current, writeOutcome, revertible}
 use Rattle.signing.specs.declared.Signer.{Signer}
 use Rattle.signing.specs.Calls.{Answer, Signs, Refused, signed}
-use Rattle.commits.specs.Committing.{committedImage, committedSigned}
+use Rattle.commits.specs.Committing.{committedImage, committedSigned, revertedImage, revertedSigned}
 
 -- why opening refuses; of an image that opens nobody asks
 abbrev pub refusalOf : Opened → Refusal
@@ -101,12 +101,12 @@ pub record Stepped (step : Step) (image : List ℕ) (after : After) : Type 0 whe
   pub session : step .session ≡ after .session
   pub stored : image ≡ after .image
 
--- begin: 13 if begun; it remembers the header
+-- begin: 13 if begun; it remembers the header, and forgets what an idle session remembers
 abbrev pub beginIn : List ℕ → Session → Opened → After
 beginIn image session (opening.Refused r) = unchanged image session r
 beginIn image session (opening.Valid c) =
     cond (session .begun) (unchanged image session SessionState)
-    (done (begunImage c image) (record { begun = true; header = headerBytes image }))
+    (done (begunImage c image) (begunWith (headerBytes image)))
 
 unfoldable pub begin : List ℕ → Session → After
 begin image session = beginIn image session (opened image)
@@ -121,12 +121,11 @@ abbrev pub leaving : Outcome → List ℕ → Session → After → After
 leaving outcome.Accepted image session next = next
 leaving (outcome.Refused r) image session next = unchanged image session r
 
--- a write to a partition that is there: 12, 9, 10, and 17 last
+-- a write to a partition that is there: 9, 10, and 17 last
 abbrev pub writeTo : Container → List ℕ → Session → (q place : ℕ) → List ℕ → After
 writeTo c image session q place bytes =
-    cond (stagedView c q .external) (unchanged image session ExternalLevel)
-    (leaving (writeOutcome (stagedView c q) image place (length bytes)) image session
-    (finished (stagedView c q) place bytes session (writtenTo (stagedView c q) place bytes image)))
+    leaving (writeOutcome (stagedView c q) image place (length bytes)) image session
+    (finished (stagedView c q) place bytes session (writtenTo (stagedView c q) place bytes image))
 
 -- what a call of a begun session checks first: opening's refusals, 13, 14
 abbrev pub inSession : List ℕ → Session → (Container → After) → Opened → After
@@ -142,9 +141,13 @@ writeOn image session q place bytes c =
 unfoldable pub write : List ℕ → Session → (q place : ℕ) → List ℕ → After
 write image session q place bytes = inSession image session (writeOn image session q place bytes) (opened image)
 
+-- a commit that lands: the session remembers the headers before and after
+abbrev pub landed : (image after : List ℕ) → After
+landed image after = done after (remembering (headerBytes image) (headerBytes after))
+
 -- commit: these alone
 abbrev pub commitOn : List ℕ → Container → After
-commitOn image c = done (committedImage c image) idle
+commitOn image c = landed image (committedImage c image)
 
 unfoldable pub commit : List ℕ → Session → After
 commit image session = inSession image session (commitOn image) (opened image)
@@ -152,10 +155,29 @@ commit image session = inSession image session (commitOn image) (opened image)
 -- a signed commit: these, then 15; the old signature is not looked at
 abbrev pub commitBy : List ℕ → Session → (key : List ℕ) → Signer → Answer → Container → After
 commitBy image session key signer (Refused r) c = unchanged image session r
-commitBy image session key signer (Signs block) c = done (committedSigned c image key signer) idle
+commitBy image session key signer (Signs block) c = landed image (committedSigned c image key signer)
 
 unfoldable pub commitSigned : List ℕ → Session → (key : List ℕ) → Signer → After
 commitSigned image session key signer = inSession image session (commitBy image session key signer (signed image signer)) (opened image)
+
+-- what a revert checks: opening's refusals under the present header, 13 if begun, 21
+abbrev pub reverting : List ℕ → Session → After → Opened → After
+reverting image session next (opening.Refused r) = unchanged image session r
+reverting image session next (opening.Valid c) =
+    cond (session .begun) (unchanged image session SessionState)
+    (cond (revertible image (session .header) (session .later)) next (unchanged image session NothingToRevert))
+
+-- revert: these alone; it forgets
+unfoldable pub revert : List ℕ → Session → After
+revert image session = reverting image session (done (revertedImage image (session .header)) idle) (opened image)
+
+-- a signed revert: these, then 15
+abbrev pub revertBy : List ℕ → Session → (key : List ℕ) → Signer → Answer → After
+revertBy image session key signer (Refused r) = unchanged image session r
+revertBy image session key signer (Signs block) = done (revertedSigned image (session .header) key signer) idle
+
+unfoldable pub revertSigned : List ℕ → Session → (key : List ℕ) → Signer → After
+revertSigned image session key signer = reverting image session (revertBy image session key signer (signed image signer)) (opened image)
 
 -- abandon: 13 alone; it does not look at the image
 pub record Abandoned : Type 0 where

@@ -1,32 +1,46 @@
--- A session: what begin leaves, when its image is the one that it began on, and what a write answers.
-use Prim.Native.Nat.{ℕ, zero, suc, _+_, _-_, _*_}
+-- A session: what it remembers, what begin leaves, when its image is the one that it began on, what a write answers, and when a revert may be.
+use Prim.Native.Nat.{ℕ, zero, suc, _+_, _-_}
 use mathlib.Core.Bool.{Bool, true, false, not, _&&_, _||_, cond}
 use mathlib.Core.List.{List}
-use lib.ListN.{length, getD, set, replicate}
+use lib.ListN.{getD, set, replicate}
 use lib.Seq.{sets}
-use lib.Dec.{leb, ltb, eqb}
-use Rattle.number.specs.declared.Range.{Range}
+use lib.Dec.{eqb}
 use Rattle.number.specs.Ranges.{part}
 use Rattle.number.specs.Bytes.{within, sameBytes}
 use Rattle.layout.specs.declared.Slot.{Slot}
-use Rattle.layout.specs.declared.Partition.{Partition}
 use Rattle.layout.specs.declared.Container.{Container}
 use Rattle.layout.specs.declared.Refusal.the-variants.{Unverified}
+use Rattle.layout.specs.declared.Opened.{Opened}
+use Rattle.layout.specs.declared.Opened.the-variants as opening
 use Rattle.layout.specs.Headers.{headerBytes}
 use Rattle.layout.specs.Tables.{active, inactive}
+use Rattle.layout.specs.Opening.{opened}
 use Rattle.dpfs.specs.Staging.{begun}
 use Rattle.ivfc.specs.declared.View.{View}
 use Rattle.ivfc.specs.Views.{verified}
 use Rattle.update.specs.Covering.{covered}
+use Rattle.commits.specs.Committing.{revertedImage}
 use Rattle.views.specs.Places.{partitions, slotOf, partitionOf, treeOf}
 use Rattle.layout.specs.declared.Outcome.{Outcome}
 use Rattle.layout.specs.declared.Outcome.the-variants as outcome
 use Rattle.steps.specs.declared.Session.{Session}
 use Rattle.steps.specs.Reading.{refuseOutside, refuseLowest}
 
--- an idle session remembers nothing
+-- nothing remembered: 256 zero bytes, which are no header of an image that opens
+unfoldable pub nothing : List ℕ
+nothing = replicate 256 0
+
+-- an idle session that remembers nothing
 unfoldable pub idle : Session
-idle = record { begun = false; header = replicate 256 0 }
+idle = record { begun = false; header = nothing; later = nothing }
+
+-- a begun one remembers the header
+abbrev pub begunWith : (header : List ℕ) → Session
+begunWith header = record { begun = true; header = header; later = nothing }
+
+-- an idle one remembers the headers before and after the last commit in it
+abbrev pub remembering : (former later : List ℕ) → Session
+remembering former later = record { begun = false; header = former; later = later }
 
 -- ---- begin
 
@@ -90,3 +104,13 @@ endsOutcome view image place n =
 -- 9, 10: the last with the lowest block to which it applies
 unfoldable pub writeOutcome : View → List ℕ → (place n : ℕ) → Outcome
 writeOutcome view image place n = refuseOutside view place n (endsOutcome view image place n)
+
+-- ---- revert (02: back, one step back)
+
+abbrev pub isValid : Opened → Bool
+isValid (opening.Valid c) = true
+isValid (opening.Refused r) = false
+
+-- the present header is as remembered, and the image opens under the former; else the call is refused with 21
+unfoldable pub revertible : List ℕ → (former later : List ℕ) → Bool
+revertible image former later = sameBytes (headerBytes image) later && isValid (opened (revertedImage image former))

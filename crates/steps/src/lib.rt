@@ -4,6 +4,7 @@ use layout::Refusal;
 pub mod answers;
 pub mod beginning;
 pub mod judging;
+pub mod reverting;
 pub mod staleness;
 pub mod viewing;
 pub mod writing;
@@ -21,18 +22,20 @@ pub enum Count {
     Refused(Refusal),
 }
 
-// How a call on a session ends. A refused call has changed nothing. A write that would hold a digest of all zeros is dropped, which is 17: it
-// ends its session.
+// How a call that changes an image ends. A refused call has changed nothing. One that would hold a digest of all zeros is dropped, which is 17: a write
+// ends its session then, and the making of a blank image leaves zeros.
 pub enum Ending {
     Accepted,
     Refused(Refusal),
     Dropped,
 }
 
-// A session: idle, or begun with the 256 header bytes that it remembers.
+// A session. Begun, it remembers the 256 header bytes in `header`. Idle, it remembers those before and after the last commit in it, in `header` and
+// `later`; where there is nothing to remember both are zero, and no image that opens has such a header.
 pub struct Session {
     pub begun: bool,
     pub header: [u8; 256],
+    pub later: [u8; 256],
 }
 
 // What a call on a session answers, and the session after it.

@@ -25,6 +25,7 @@ pub fn idle_session() -> Session
     Session {
         begun: false,
         header: [0u8; 256],
+        later: [0u8; 256],
     }
 }
 
@@ -54,7 +55,7 @@ fn finish(zero: bool, session: Session) -> Step
     }
 }
 
-// Writes bytes to a partition whose places are known: 12, 9, 10, then the stores, then 17.
+// Writes bytes to a partition whose places are known: 9, 10, then the stores, then 17.
 pub fn write_partition(
     image: &mut [u8],
     session: Session,
@@ -67,9 +68,6 @@ pub fn write_partition(
     ensures { λ r. ⌜ Stepped r (now (image .exit)) (calls.writeTo c (now (image .entry)) session q place (now (bytes .entry))) ⌝ }
 {
     let view = staged_view(c, q);
-    if view.external {
-        return refused(session, Refusal::ExternalLevel);
-    }
     match judge_write(view, image, place, bytes.len() as u64) {
         Outcome::Refused(refusal) => refused(session, refusal),
         Outcome::Accepted => finish(

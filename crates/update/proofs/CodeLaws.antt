@@ -1,11 +1,14 @@
 -- What the functions of a write ask of each other, and their steps. Assumes nothing.
 use mathlib.Core.Path.{_≡_, refl, sym, ap, _∙_}
 use mathlib.Core.List.{List, [], _∷_}
-use mathlib.Core.Bool.{Bool, true, false, not}
+use mathlib.Core.Bool.{Bool, true, false, not, _&&_, cond, true≢false}
 use Prim.Native.Nat.{ℕ, zero, suc, _+_, _-_, _*_, _≤_, _<_}
 use native.Mathlib.Omega.{arith}
 use lib.ListN.{length}
 use lib.Seq.{sets}
+use lib.Dec.{eqb}
+use borrow.Author.Tests.{eqb-true}
+use Rattle.number.proofs.Tests.{and-left, and-right}
 use Rattle.number.specs.declared.Level.{Level}
 use Rattle.number.specs.Blocks.{blocks, blockOf, lastBlock}
 use Rattle.number.proofs.FrameLaws.{keeps-refl}
@@ -20,13 +23,13 @@ use Rattle.ivfc.specs.Blocks.{parent}
 use Rattle.ivfc.specs.Rows.{digests}
 use Rattle.ivfc.specs.Rules.{ViewRules}
 use Rattle.ivfc.specs.Views.{levelOf, contentOf, verified}
-use Rattle.ivfc.proofs.ViewLaws.{level-zero, inside-master, inside-inner, level-small}
+use Rattle.ivfc.proofs.ViewLaws.{level-zero, inside-master, inside-inner, level-small, inner-test, inside-outer}
 use Rattle.ivfc.proofs.VerifiedLaws.{entry-above}
 use Rattle.update.specs.Covering.{covered}
 use Rattle.update.specs.Writing.{cleared, entered, rehashed, written, zeroHeld}
-use Rattle.update.specs.Staged.{putLevel, writtenTo, holdsZero}
+use Rattle.update.specs.Staged.{putLevel, writtenTo, holdsZero, outer}
 use Rattle.update.specs.Rules.{StagedRules, WriteRules, EndsRules}
-use Rattle.update.proofs.ImageLaws.{Own, master-in-table, master-keeps, inner-keeps, staged-store}
+use Rattle.update.proofs.ImageLaws.{Own, master-in-table, master-keeps, inner-keeps, staged-store, outer-keeps}
 use Rattle.update.proofs.StoreLaws.{entered-ok, entered-split, entered-at-once}
 
 -- ---- bytes put into a level
@@ -36,13 +39,21 @@ module _ (view : View) (i x : ℕ) (values image : List ℕ) where
   unfolding putLevel
   put-master e = rw e
 
-  pub put-inner : (i ≡ 0 → ⊥) → dpfs.put (view .tree) (levelOf view i .offset + x) values image ≡ putLevel view i x values image
-  unfolding putLevel
-  put-inner ne = go i ne
+  pub put-inner : (i ≡ 0 → ⊥) → eqb i 4 && view .external ≡ false → dpfs.put (view .tree) (levelOf view i .offset + x) values image ≡ putLevel view i x values image
+  unfolding putLevel outer
+  put-inner ne e = go i ne e
     where
-      go : (j : ℕ) → (j ≡ 0 → ⊥) → dpfs.put (view .tree) (levelOf view j .offset + x) values image ≡ putLevel view j x values image
-      go zero ne = absurd (ne refl)
-      go (suc j) ne = refl
+      go : (j : ℕ) → (j ≡ 0 → ⊥) → eqb j 4 && view .external ≡ false → dpfs.put (view .tree) (levelOf view j .offset + x) values image ≡ putLevel view j x values image
+      go zero ne e = absurd (ne refl)
+      go (suc j) ne e = ap (λ (t : Bool). cond t (sets image (view .outside + x) values) (dpfs.put (view .tree) (levelOf view (suc j) .offset + x) values image)) (sym e)
+
+  pub put-outer : eqb i 4 && view .external ≡ true → sets image (view .outside + x) values ≡ putLevel view i x values image
+  unfolding putLevel outer
+  put-outer e = go i e
+    where
+      go : (j : ℕ) → eqb j 4 && view .external ≡ true → sets image (view .outside + x) values ≡ putLevel view j x values image
+      go zero e = absurd (true≢false (sym e))
+      go (suc j) e = ap (λ (t : Bool). cond t (sets image (view .outside + x) values) (dpfs.put (view .tree) (levelOf view (suc j) .offset + x) values image)) (sym e)
 
 module _ (space : Space) (view : View) (image : List ℕ) (r : StagedRules space view (length image)) (i x n : ℕ) (fit : x + n ≤ levelOf view i .size) where
   -- into the master hash: its places are free
@@ -58,14 +69,25 @@ module _ (space : Space) (view : View) (image : List ℕ) (r : StagedRules space
       master-size e = ap (λ (l : Level). l .size) (sym (level-zero view i e))
 
   -- into a level inside DPFS level 3
-  pub inner-ends : i ≤ 4 → (i ≡ 0 → ⊥) → levelOf view i .offset + x + n ≤ view .tree .level3 .size
-  inner-ends h ne = omega (arith, inside-inner view (length image) (r .rules) i (omega arith) h (λ _. r .internal))
+  pub inner-ends : i ≤ 4 → (i ≡ 0 → ⊥) → eqb i 4 && view .external ≡ false → levelOf view i .offset + x + n ≤ view .tree .level3 .size
+  inner-ends h ne e = omega (arith, inside-inner view (length image) (r .rules) i (omega arith) h (inner-test i (view .external) e))
+
+  -- into an external level 4
+  pub outer-ends : eqb i 4 && view .external ≡ true → (view .external ≡ true) × (view .outside + x + n ≤ length image)
+  outer-ends e =
+      let f = and-right (eqb i 4) (view .external) e in
+      (f, omega (arith, inside-outer view (length image) (r .rules) i (eqb-true i 4 (and-left (eqb i 4) (view .external) e)) f))
 
 pub length-put : (space : Space) (view : View) (image : List ℕ) → StagedRules space view (length image) → (i x : ℕ) (values : List ℕ) → i ≤ 4
     → x + length values ≤ levelOf view i .size → length (putLevel view i x values image) ≡ length image
 unfolding putLevel levelOf
 length-put space view image r zero x values h fit = master-keeps space view (length image) r image refl x values fit .size
-length-put space view image r (suc i) x values h fit = inner-keeps space view (length image) r image refl x values i h fit .size
+length-put space view image r (suc i) x values h fit = by (outer view (suc i)) refl
+  where
+    by : (t : Bool) → outer view (suc i) ≡ t
+        → length (cond t (sets image (view .outside + x) values) (dpfs.put (view .tree) (levelOf view (suc i) .offset + x) values image)) ≡ length image
+    by true e = outer-keeps space view (length image) r image refl x values i e fit .size
+    by false e = inner-keeps space view (length image) r image refl x values i h e fit .size
 
 -- ---- the entries of an interval, some at a time
 

@@ -6,18 +6,35 @@ use Prim.Native.Nat.{ℕ, _+_, _≤_, _<_}
 use lib.ListN.{length}
 use Rattle.number.specs.Blocks.{blockOf, lastBlock, touches}
 use Rattle.dpfs.specs.declared.Space.{Space}
-use Rattle.dpfs.specs.Rules.{SpaceRules, Among}
+use Rattle.number.specs.declared.Range.{Range}
+use Rattle.number.specs.Ranges.{Apart}
+use Rattle.dpfs.specs.Free.{InRange}
+use Rattle.dpfs.specs.Rules.{SpaceRules, Among, BeyondAll}
 use Rattle.ivfc.specs.declared.View.{View}
 use Rattle.ivfc.specs.Rules.{ViewRules, LevelsApart}
 use Rattle.ivfc.specs.Views.{verified}
 use Rattle.update.specs.Covering.{covered}
 
--- the staged view of a partition with internal level 4, in an image of n bytes: its master hash stands in the inactive table
+-- where an external level 4 stands
+abbrev pub outerRange : View → Range
+outerRange view = record { offset = view .outside; size = view .level4 .size }
+
+-- it stands apart from the inactive table and from the trees
+pub record OuterRules (space : Space) (view : View) : Type 0 where
+  pub table : Apart (space .table) (outerRange view)
+  pub a : BeyondAll (outerRange view) (space .a)
+  pub b : space .two ≡ true → BeyondAll (outerRange view) (space .b)
+
+-- the bytes of an external level 4 in a written range; of an internal one there are none
+unfoldable pub InPlace : View → (x n : ℕ) → (i : ℕ) → Type 0
+InPlace view x n i = (view .external ≡ true) × InRange (record { offset = view .outside + x; size = n }) i
+
+-- the staged view of a partition, in an image of n bytes: its master hash stands in the inactive table
 pub record StagedRules (space : Space) (view : View) (n : ℕ) : Type 0 where
   pub places : SpaceRules space n
   pub among : Among (view .tree) space
   pub rules : ViewRules view n
-  pub internal : view .external ≡ false
+  pub outer : view .external ≡ true → OuterRules space view
   pub staged : view .half ≡ not (view .tree .live)
   pub separate : LevelsApart view
   pub master-from : space .table .offset ≤ view .master .offset

@@ -16,21 +16,49 @@ pub mod clearing;
 pub mod zeros;
 
 ghost use mathlib.Core.Path.{_≡_};
-ghost use Prim.Native.Nat.{ℕ, suc, _+_, _-_, _*_, _≤_, _<_};
-ghost use lib.ListN.{length};
+ghost use Prim.Native.Nat.{suc, _+_, _-_, _*_, _≤_, _<_};
+ghost use mathlib.Core.Bool.{true};
+ghost use lib.ListN.{length, set};
+ghost use lib.Seq.{sets};
 ghost use Rattle.number.specs.Blocks.{blocks};
 ghost use Rattle.ivfc.specs.Views.{levelOf, contentOf};
 ghost use Rattle.update.specs.Writing.{entered, rehashed};
 ghost use Rattle.update.specs.Staged.{putLevel, writtenTo, holdsZero};
-ghost use Rattle.update.specs.Rules.{StagedRules, WriteRules, EndsRules};
+ghost use Rattle.update.specs.Rules.{StagedRules, WriteRules, EndsRules, InPlace};
 
-// Puts bytes into a level of the staged view: into the master hash at its place of the inactive table, else into the staged DPFS level 3.
+// The one store to an external level 4: in place, in the range that is written.
+fn store_outside(view: View, image: &mut [u8], x: u64, n: u64, i: u64, value: u8)
+    requires { ⌜ (InPlace view x n i) × (i < length (now image)) ⌝ }
+    ensures { λ _. ⌜ now (image .exit) ≡ set (now (image .entry)) i value ⌝ }
+{
+    let at = i as usize;
+    image[at] = value;
+}
+
+// Writes bytes to an external level 4 from x on.
+fn put_outside(view: View, image: &mut [u8], x: u64, values: &[u8])
+    requires { ⌜ (view .external ≡ true) × (view .outside + x + length (now values) ≤ length (now image)) × (length (now image) ≤ 0x4000000) ⌝ }
+    ensures { λ _. ⌜ now (image .exit) ≡ sets (now (image .entry)) (view .outside + x) (now (values .entry)) ⌝ }
+{
+    let n = values.len() as u64;
+    let mut i = 0;
+    while i < values.len() {
+        let value = values[i];
+        store_outside(view, image, x, n, view.outside + x + i as u64, value);
+        i += 1;
+    }
+}
+
+// Puts bytes into a level of the staged view: into the master hash at its place of the inactive table, into an external level 4 in place, else into
+// the staged DPFS level 3.
 fn put_level(space: Space, view: View, image: &mut [u8], i: u64, x: u64, values: &[u8])
     requires { ⌜ (StagedRules space view (length (now image))) × (i ≤ 4) × (x + length (now values) ≤ levelOf view i .size) ⌝ }
     ensures { λ _. ⌜ now (image .exit) ≡ putLevel view i x (now (values .entry)) (now (image .entry)) ⌝ }
 {
     if i == 0 {
         store_bytes(space, image, view.master.offset + x, values);
+    } else if (i == 4) & view.external {
+        put_outside(view, image, x, values);
     } else {
         put_bytes(
             space,

@@ -10,7 +10,8 @@ ghost use Prim.Native.Nat.{ℕ};
 ghost use lib.ListN.{length};
 ghost use Rattle.views.specs.Versions.{versionOf};
 ghost use Rattle.names.specs.Listing.{Entry, files, folders, folderAt, listing};
-ghost use Rattle.names.specs.Walks.{Holds, Walks, Ready, Goes, Fewer, unvisited, answerOf, Listable, Lays, rowAfter};
+ghost use Rattle.names.specs.Walks.{Holds, Walks, Ready, Goes, Fewer, unvisited, answerOf, Listable, Lays};
+ghost use Rattle.names.specs.Records.{rowAfter};
 ghost use Rattle.entries.specs.Known.{Knows, Legible};
 
 // The deepest folder is so many levels below the root.
@@ -68,17 +69,7 @@ fn list_folder(
     if DEEPEST < depth {
         return Walked::Invalid;
     }
-    let own = meet(
-        view,
-        image,
-        known,
-        s.folders,
-        0,
-        folder_marks,
-        row,
-        e,
-        met,
-    );
+    let own = meet(view, image, known, s.folders, 0, folder_marks, row, e, met);
     let Walked::Met(n) = own else {
         return own;
     };

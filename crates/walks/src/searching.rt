@@ -94,14 +94,7 @@ fn search_chain(
 }
 
 // The file with a name in a folder.
-pub fn find(
-    s: Save,
-    view: View,
-    image: &[u8],
-    known: &mut [u8],
-    parent: u64,
-    name: &[u8],
-) -> Search
+pub fn find(s: Save, view: View, image: &[u8], known: &mut [u8], parent: u64, name: &[u8]) -> Search
     requires { ⌜ (Legible view (now image) (now known)) × (Searchable s (view .level4 .log) (view .level4 .size)) × (0 < s .buckets) × (s .hash + 4 * s .buckets ≤ view .level4 .size) ⌝ }
     ensures { λ r. ⌜ r ≡ found s (versionOf view (now (image .entry)) .bytes) (versionOf view (now (image .entry)) .verified) parent (now (name .entry)) ⌝ }
 {

@@ -1,7 +1,7 @@
 -- `enter_table`: the table over the hash levels, the header over both. Assumes nothing.
 use native.Mathlib.Omega.{arith}
 use Rattle.blank.proofs.SizeLaws.{sized}
-use Rattle.blank.proofs.MakeLaws.{length-s, room0, length-t, room-t, image-made, below-made}
+use Rattle.blank.proofs.MakeLaws.{length-s, room0, room-t, image-made, below-made}
 use borrow.Author.Needs.{needs}
 use Rattle.blank.proofs.filling.enter_table.Statement.{statement}
 use Rattle.blank.proofs.filling.enter_table.Tie as tie

@@ -1,6 +1,6 @@
 -- `digest_at`: the part of the image is the block's bytes. Assumes nothing.
 use native.Mathlib.Omega.{arith}
-use Rattle.blank.proofs.HashLaws.{Placed, placed, start-small, piece-length, block-digest}
+use Rattle.blank.proofs.HashLaws.{placed, start-small, piece-length, block-digest}
 use mathlib.Core.Path.{refl}
 use borrow.Author.Needs.{needs}
 use Rattle.blank.proofs.hashes.digest_at.Statement.{statement}

@@ -1,14 +1,15 @@
 -- `enter_digests`: the invariant: the digests so far are stored and judged, and the last one is at hand. Assumes nothing.
 use Prim.Native.Nat.{ℕ, _≤_, _<_, _-_, _+_}
-use mathlib.Core.Path.{_≡_, refl, sym, ap, _∙_}
+use mathlib.Core.Path.{_≡_, refl, ap, _∙_}
 use native.Mathlib.Omega.{arith}
 use borrow.Author.Needs.{needs}
-use lib.ListN.{length, getD}
+use lib.ListN.{length}
 use lib.Seq.{sets, length-sets}
 use Rattle.number.specs.Blocks.{blocks}
 use Rattle.sha256.specs.Sha256.{sha256}
 use Rattle.ivfc.specs.Blocks.{block}
 use Rattle.ivfc.specs.Rows.{digests}
+use Rattle.blank.specs.Rules.{bytesFrom}
 use Rattle.blank.specs.Making.{someZero}
 use Rattle.blank.proofs.HashLaws.{entry-fits, own, last-now, next-last, enter-step, zero-step}
 use Rattle.blank.proofs.hashes.enter_digests.Statement.{statement}
@@ -17,9 +18,9 @@ use Rattle.blank.proofs.hashes.enter_digests.Tie as tie
 abbrev Inv-loop : tie.InvT-loop
 Inv-loop image₀ from l to count zero₀ d₀ b₀ image zero d b =
     (b ≤ blocks l) × (length image ≡ length image₀)
-    × (image ≡ sets image₀ to (digests l (λ (y : ℕ). getD image₀ (from + y) 0) 0 b))
-    × (zero ≡ someZero l (λ (y : ℕ). getD image₀ (from + y) 0) b)
-    × (1 ≤ b → d ≡ sha256 (block l (λ (y : ℕ). getD image₀ (from + y) 0) (b - 1)))
+    × (image ≡ sets image₀ to (digests l (bytesFrom image₀ from) 0 b))
+    × (zero ≡ someZero l (bytesFrom image₀ from) b)
+    × (1 ≤ b → d ≡ sha256 (block l (bytesFrom image₀ from) (b - 1)))
 
 abbrev μ-loop : tie.MeasureT-loop
 μ-loop image₀ from l to count zero₀ d₀ b₀ image zero d b = blocks l - b
@@ -93,7 +94,7 @@ returns : tie.Need-returns Inv-loop μ-loop
 returns c =
     let a = c .before .before .before .before .args in
     let l = c .before .loop in
-    let f : ℕ → ℕ = λ y. getD (a .image .now) (a .from + y) 0 in
+    let f : ℕ → ℕ = bytesFrom (a .image .now) (a .from) in
     let e : l .b ≡ blocks (a .l) = omega (arith, l .inv .0, c .loop-test .left, c .before .before .block-count .ensures) in (
       l .inv .2 ∙ ap (λ (x : ℕ). sets (a .image .now) (a .to) (digests (a .l) f 0 x)) e,
       l .inv .3 ∙ ap (someZero (a .l) f) e,

@@ -1,6 +1,5 @@
 -- `rounded_up`: the quotient, and less than a unit too many. Assumes nothing.
 use Rattle.blank.proofs.SizeLaws.{rounded}
-use native.Mathlib.Omega.{arith}
 use Rattle.blank.specs.Sizes.{up}
 use borrow.Author.Needs.{needs}
 use Rattle.blank.proofs.sizes.rounded_up.Statement.{statement}

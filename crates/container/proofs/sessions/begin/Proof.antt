@@ -1,3 +1,4 @@
+use Rattle.steps.specs.Sessions.{nothing}
 use Rattle.views.proofs.FitLaws.{space-fits}
 use Rattle.steps.proofs.SessionLaws.{begin-unopened, begin-busy, begin-done, guaranteed}
 use borrow.Author.Needs.{needs}
@@ -47,6 +48,7 @@ same-length-3 : tie.Need-same-length-3
 same-length-3 c = search needs
 
 returns-3 : tie.Need-returns-3
+unfolding nothing
 returns-3 c = begin-done (c .before .before .before .before .before .before .before .before .before .before .before .before .before .before .args .image .now) (c .before .before .before .before .before .before .before .before .before .before .before .«open» .result) (c .before .before .before .before .before .before .before .before .before .before .before .«open» .ensures) (c .before .before .before .before .before .before .before .before .before .before .before .before .before .before .args .session) (c .before .before .before .before .before .before .before .before .before .answer .given .0 .0) (c .before .before .before .before .before .before .before .before .before .answer .given .1) (c .before .before .before .before .before .before .before .if1 .left) (c .before .before .before .before .before .header-of .result) _ (c .before .before .before .before .before .header-of .ensures) (c .before .before .stage-image .ensures)
 
 pub begin-spec : {M : Type 1} → statement M

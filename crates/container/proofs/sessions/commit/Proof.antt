@@ -1,8 +1,9 @@
 -- `container::sessions::commit` meets its contract. Assumes nothing.
-use Rattle.steps.proofs.SessionLaws.{guaranteed, session-unopened, session-idle, session-stale, session-goes-on, commit-done}
-use Rattle.steps.specs.Calls.{commit}
-use borrow.Author.Tests.{not-true, not-false}
 use Rattle.number.proofs.Tests.{failed, passed}
+use borrow.Author.Tests.{not-true, not-false}
+use Rattle.steps.specs.Calls.{commit}
+use Rattle.steps.proofs.SessionLaws.{guaranteed, session-unopened, session-idle, session-stale, session-goes-on, commit-done}
+use native.Mathlib.Omega.{arith}
 use borrow.Author.Needs.{needs}
 use Rattle.container.proofs.sessions.commit.Statement.{statement}
 use Rattle.container.proofs.sessions.commit.Tie as tie
@@ -52,18 +53,23 @@ returns-3 : tie.Need-returns-3
 unfolding commit
 returns-3 c = session-stale _ _ (c .before .before .before .before .before .before .before .before .before .«open» .ensures) _ _ (c .before .before .before .before .before .before .before .answer .given .1) _ (not-false _ (c .before .before .before .before .if1 .left)) (failed (c .before .before .is-current .ensures) (c .before .if2 .taken)) _ (c .refused3 .ensures)
 
-switch-tables-requires : tie.Need-switch-tables-requires
-switch-tables-requires c κs = guaranteed _ _ (c .before .before .before .before .before .before .before .before .before .«open» .ensures) (c .before .before .before .before .before .before .before .before .before .before .before .before .args .session) _ (c .before .before .before .before .before .before .before .answer .given .1)
+header-of-requires : tie.Need-header-of-requires
+header-of-requires c κs = guaranteed _ _ (c .before .before .before .before .before .before .before .before .before .«open» .ensures) (c .before .before .before .before .before .before .before .before .before .before .before .before .args .session) _ (c .before .before .before .before .before .before .before .answer .given .1) .shortest
 
-new-requires : tie.Need-new-requires
-new-requires c κs = search needs
+switch-tables-requires : tie.Need-switch-tables-requires
+switch-tables-requires c κs = guaranteed _ _ (c .before .before .before .before .before .before .before .before .before .before .before .«open» .ensures) (c .before .before .before .before .before .before .before .before .before .before .before .before .before .before .args .session) _ (c .before .before .before .before .before .before .before .before .before .answer .given .1)
+
+header-of-requires-2 : tie.Need-header-of-requires-2
+header-of-requires-2 c κs = omega (arith, c .before .before .before .switch-tables .kept .0, guaranteed _ _ (c .before .before .before .before .before .before .before .before .before .before .before .before .before .before .before .«open» .ensures) (c .before .before .before .before .before .before .before .before .before .before .before .before .before .before .before .before .before .before .args .session) _ (c .before .before .before .before .before .before .before .before .before .before .before .before .before .answer .given .1) .shortest)
 
 same-length-4 : tie.Need-same-length-4
 same-length-4 c = search needs
 
 returns-4 : tie.Need-returns-4
 unfolding commit
-returns-4 c = session-goes-on _ _ (c .before .before .before .before .before .before .before .before .before .before .before .before .before .«open» .ensures) _ _ (c .before .before .before .before .before .before .before .before .before .before .before .answer .given .1) _ (not-false _ (c .before .before .before .before .before .before .before .before .if1 .left)) (passed (c .before .before .before .before .before .before .is-current .ensures) (c .before .before .before .before .before .if2 .left)) _ _ (commit-done _ _ _ _ (c .new .ensures) (c .before .before .before .switch-tables .ensures))
+returns-4 c =
+    session-goes-on _ _ (c .before .before .before .before .before .before .before .before .before .before .before .before .before .before .before .before .«open» .ensures) _ _ (c .before .before .before .before .before .before .before .before .before .before .before .before .before .before .answer .given .1) _ (not-false _ (c .before .before .before .before .before .before .before .before .before .before .before .if1 .left)) (passed (c .before .before .before .before .before .before .before .before .before .is-current .ensures) (c .before .before .before .before .before .before .before .before .if2 .left)) _ _
+    (commit-done _ _ _ _ _ (c .before .before .before .before .before .before .header-of .ensures) (c .header-of2 .ensures) (c .before .before .before .before .switch-tables .ensures))
 
 pub commit-spec : {M : Type 1} → statement M
 commit-spec =
@@ -83,7 +89,8 @@ commit-spec =
     refused-requires-3
     same-length-3
     returns-3
+    header-of-requires
     switch-tables-requires
-    new-requires
+    header-of-requires-2
     same-length-4
     returns-4)

@@ -3,7 +3,7 @@ use Rattle.number.proofs.Tests.{failed, passed}
 use borrow.Author.Tests.{not-true, not-false}
 use Rattle.steps.specs.Calls.{commitSigned}
 use Rattle.steps.proofs.SessionLaws.{guaranteed, session-unopened, session-idle, session-stale, session-goes-on, signer-unfit, signed-done}
-use mathlib.Core.Path.{refl}
+use native.Mathlib.Omega.{arith}
 use borrow.Author.Needs.{needs}
 use Rattle.container.proofs.sessions.commit_signed.Statement.{statement}
 use Rattle.container.proofs.sessions.commit_signed.Tie as tie
@@ -65,11 +65,14 @@ refused-requires-4 c κs = search needs
 enum-told-2 : tie.Need-enum-told-2
 enum-told-2 c = search needs
 
-switch-signed-requires : tie.Need-switch-signed-requires
-switch-signed-requires c κs = guaranteed _ _ (c .before .before .before .before .before .before .before .before .before .before .before .before .before .«open» .ensures) (c .before .before .before .before .before .before .before .before .before .before .before .before .before .before .before .before .args .session) _ (c .before .before .before .before .before .before .before .before .before .before .before .answer .given .1)
+header-of-requires : tie.Need-header-of-requires
+header-of-requires c κs = guaranteed _ _ (c .before .before .before .before .before .before .before .before .before .before .before .before .before .«open» .ensures) (c .before .before .before .before .before .before .before .before .before .before .before .before .before .before .before .before .args .session) _ (c .before .before .before .before .before .before .before .before .before .before .before .answer .given .1) .shortest
 
-new-requires : tie.Need-new-requires
-new-requires c κs = search needs
+switch-signed-requires : tie.Need-switch-signed-requires
+switch-signed-requires c κs = guaranteed _ _ (c .before .before .before .before .before .before .before .before .before .before .before .before .before .before .before .«open» .ensures) (c .before .before .before .before .before .before .before .before .before .before .before .before .before .before .before .before .before .before .args .session) _ (c .before .before .before .before .before .before .before .before .before .before .before .before .before .answer .given .1)
+
+header-of-requires-2 : tie.Need-header-of-requires-2
+header-of-requires-2 c κs = omega (arith, c .before .before .before .switch-signed .kept .0, guaranteed _ _ (c .before .before .before .before .before .before .before .before .before .before .before .before .before .before .before .before .before .before .before .«open» .ensures) (c .before .before .before .before .before .before .before .before .before .before .before .before .before .before .before .before .before .before .before .before .before .before .args .session) _ (c .before .before .before .before .before .before .before .before .before .before .before .before .before .before .before .before .before .answer .given .1) .shortest)
 
 same-length-4 : tie.Need-same-length-4
 same-length-4 c = search needs
@@ -86,8 +89,8 @@ same-length-5 c = search needs
 returns-5 : tie.Need-returns-5
 unfolding commitSigned
 returns-5 c =
-    session-goes-on _ _ (c .before .before .before .before .before .before .before .before .before .before .before .before .before .before .before .before .before .«open» .ensures) _ _ (c .before .before .before .before .before .before .before .before .before .before .before .before .before .before .before .answer .given .1) _ (not-false _ (c .before .before .before .before .before .before .before .before .before .before .before .before .if1 .left)) (passed (c .before .before .before .before .before .before .before .before .before .before .is-current .ensures) (c .before .before .before .before .before .before .before .before .before .if2 .left)) _ _
-    (signed-done _ _ _ _ _ _ (c .before .before .before .before .before .before .before .judge-signer .ensures) (c .before .before .before .before .before .enum-told2 .given .1) _ _ (c .new .ensures) (c .before .before .before .switch-signed .ensures))
+    session-goes-on _ _ (c .before .before .before .before .before .before .before .before .before .before .before .before .before .before .before .before .before .before .before .before .«open» .ensures) _ _ (c .before .before .before .before .before .before .before .before .before .before .before .before .before .before .before .before .before .before .answer .given .1) _ (not-false _ (c .before .before .before .before .before .before .before .before .before .before .before .before .before .before .before .if1 .left)) (passed (c .before .before .before .before .before .before .before .before .before .before .before .before .before .is-current .ensures) (c .before .before .before .before .before .before .before .before .before .before .before .before .if2 .left)) _ _
+    (signed-done _ _ _ _ _ _ (c .before .before .before .before .before .before .before .before .before .before .judge-signer .ensures) (c .before .before .before .before .before .before .before .before .enum-told2 .given .1) _ _ _ (c .before .before .before .before .before .before .header-of .ensures) (c .header-of2 .ensures) (c .before .before .before .before .switch-signed .ensures))
 
 pub commit-signed-spec : {M : Type 1} → statement M
 commit-signed-spec =
@@ -111,8 +114,9 @@ commit-signed-spec =
     enum-known-refusal
     refused-requires-4
     enum-told-2
+    header-of-requires
     switch-signed-requires
-    new-requires
+    header-of-requires-2
     same-length-4
     returns-4
     same-length-5

@@ -1,3 +1,4 @@
+-- `entries::knowing::add_mark` meets its contract. Assumes nothing.
 use mathlib.Core.Path.{sym, _∙_}
 use mathlib.Core.Logic.{inr}
 use native.Mathlib.Omega.{arith}
@@ -6,36 +7,25 @@ use Rattle.entries.proofs.KnownLaws.{adds-set}
 use borrow.Author.Needs.{needs}
 use Rattle.entries.proofs.knowing.add_mark.Statement.{statement}
 use Rattle.entries.proofs.knowing.add_mark.Tie as tie
-use Rattle.entries.proofs.knowing.add_mark.Reads as reads
-use Rattle.entries.proofs.knowing.add_mark.Lts as lts
-use Rattle.names.proofs.marks.is_marked.Reads as is-marked-reads
-use Rattle.names.proofs.marks.set_mark.Reads as set-mark-reads
 
--- src/knowing.rt:28:13
 is-marked-requires : tie.Need-is-marked-requires
 is-marked-requires c κs = search needs
 
--- src/knowing.rt:29:13
 set-mark-requires : tie.Need-set-mark-requires
 set-mark-requires c κs = (omega (arith, c .before .before .before .before .if1 .taken), sym (c .before .before .is-marked .ensures) ∙ not-true _ (c .before .if2 .taken))
 
--- src/knowing.rt:23:1
 same-length : tie.Need-same-length
 same-length c = search needs
 
--- src/knowing.rt:23:1
 returns : tie.Need-returns
 returns c = adds-set (c .before .before .before .before .before .before .before .before .before .args .known .now) _ (c .before .before .before .before .before .before .before .before .before .args .mark) (c .before .before .set-mark .ensures)
 
--- src/knowing.rt:23:1
 same-length-2 : tie.Need-same-length-2
 same-length-2 c = search needs
 
--- src/knowing.rt:23:1
 returns-2 : tie.Need-returns-2
 returns-2 c = λ x h. inr h
 
--- src/knowing.rt:23:1
 returns-3 : tie.Need-returns-3
 returns-3 c = λ x h. inr h
 

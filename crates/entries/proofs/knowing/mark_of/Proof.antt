@@ -1,35 +1,27 @@
+-- `entries::knowing::mark_of` meets its contract. Assumes nothing.
 use Rattle.entries.proofs.KnownLaws.{mark-data, mark-hash}
 use borrow.Author.Needs.{needs}
 use Rattle.entries.proofs.knowing.mark_of.Statement.{statement}
 use Rattle.entries.proofs.knowing.mark_of.Tie as tie
-use Rattle.entries.proofs.knowing.mark_of.Reads as reads
-use Rattle.entries.proofs.knowing.mark_of.Lts as lts
 
--- src/knowing.rt:19:17
 mul-result : tie.Need-mul-result
 mul-result c = search needs
 
--- src/knowing.rt:19:32
 mul-result-2 : tie.Need-mul-result-2
 mul-result-2 c = search needs
 
--- src/knowing.rt:19:40
 mul-result-3 : tie.Need-mul-result-3
 mul-result-3 c = search needs
 
--- src/knowing.rt:19:32
 add-result : tie.Need-add-result
 add-result c = search needs
 
--- src/knowing.rt:19:32
 add-result-2 : tie.Need-add-result-2
 add-result-2 c = search needs
 
--- src/knowing.rt:15:1
 returns : tie.Need-returns
 returns c = mark-data (c .before .args .i) (c .before .args .b) (c .if1 .taken)
 
--- src/knowing.rt:15:1
 returns-2 : tie.Need-returns-2
 returns-2 c = mark-hash (c .before .args .i) (c .before .args .b) (c .if1 .left)
 

@@ -1,4 +1,5 @@
-use mathlib.Core.Path.{_≡_, refl, sym, ap, _∙_}
+-- `entries::meeting::meet` meets its contract. Assumes nothing.
+use mathlib.Core.Path.{sym, ap, _∙_}
 use mathlib.Core.Bool.{Bool}
 use native.Mathlib.Omega.{arith}
 use Rattle.views.specs.Versions.{versionOf}
@@ -11,98 +12,73 @@ use Rattle.entries.proofs.ReadLaws.{size-small}
 use borrow.Author.Needs.{needs}
 use Rattle.entries.proofs.meeting.meet.Statement.{statement}
 use Rattle.entries.proofs.meeting.meet.Tie as tie
-use Rattle.entries.proofs.meeting.meet.Reads as reads
-use Rattle.entries.proofs.meeting.meet.Lts as lts
-use Rattle.entries.proofs.meeting.reach.Reads as reach-reads
-use Rattle.entries.proofs.reading.store_name.Reads as store-name-reads
-use Rattle.names.proofs.marks.is_marked.Reads as is-marked-reads
-use Rattle.names.proofs.marks.set_mark.Reads as set-mark-reads
 
--- src/meeting.rt:58:46
 is-marked-requires : tie.Need-is-marked-requires
 is-marked-requires c κs = search needs
 
--- src/meeting.rt:58:9
 reach-requires : tie.Need-reach-requires
 reach-requires c κs = search needs
 
--- src/meeting.rt:60:27
 enum-told : tie.Need-enum-told
 enum-told c = search needs
 
--- src/meeting.rt:61:27
 enum-known-found : tie.Need-enum-known-found
 enum-known-found c = search needs
 
--- src/meeting.rt:62:19
 enum-known-found-2 : tie.Need-enum-known-found-2
 enum-known-found-2 c = search needs
 
--- src/meeting.rt:63:13
 set-mark-requires : tie.Need-set-mark-requires
 set-mark-requires c κs =
     let q = admit-at (versionOf (c .before .before .before .before .before .before .before .before .before .before .before .before .before .before .args .view) (c .before .before .before .before .before .before .before .before .before .before .before .before .before .before .args .image .now) .verified) (c .before .before .before .before .before .before .before .before .before .before .before .before .before .before .args .view .level4 .log) (c .before .before .before .before .before .before .before .before .before .before .before .before .before .before .args .t) _ (c .before .before .before .before .before .before .before .before .before .before .before .before .before .before .args .e) _ (sym (c .before .before .before .before .before .before .reach .ensures .0) ∙ c .before .before .found2 .given .1) in
     (omega (arith, q .1, c .before .before .before .before .before .before .before .before .before .before .before .before .before .before .pre .3), sym (c .before .before .before .before .before .before .before .is-marked .ensures) ∙ q .0)
 
--- src/meeting.rt:64:54
 add-store-name : tie.Need-add-store-name
 add-store-name c =
     let q = admit-at (versionOf (c .before .before .before .before .before .before .before .before .before .before .before .before .before .before .before .before .before .before .args .view) (c .before .before .before .before .before .before .before .before .before .before .before .before .before .before .before .before .before .before .args .image .now) .verified) (c .before .before .before .before .before .before .before .before .before .before .before .before .before .before .before .before .before .before .args .view .level4 .log) (c .before .before .before .before .before .before .before .before .before .before .before .before .before .before .before .before .before .before .args .t) _ (c .before .before .before .before .before .before .before .before .before .before .before .before .before .before .before .before .before .before .args .e) _ (sym (c .before .before .before .before .before .before .before .before .before .before .reach .ensures .0) ∙ c .before .before .before .before .before .before .found2 .given .1) in
     omega (arith, q .2, c .before .before .before .before .before .before .before .before .before .before .before .before .before .before .before .before .before .before .pre .2, c .before .before .before .before .before .before .before .before .before .before .before .before .before .before .before .before .before .before .pre .1, size-small (c .before .before .before .before .before .before .before .before .before .before .before .before .before .before .before .before .before .before .args .view) _ (c .before .before .before .before .before .before .before .before .before .before .before .before .before .before .before .before .before .before .pre .0 .rules), place-ends (c .before .before .before .before .before .before .before .before .before .before .before .before .before .before .before .before .before .before .args .t) (c .before .before .before .before .before .before .before .before .before .before .before .before .before .before .before .before .before .before .args .e) (q .1))
 
--- src/meeting.rt:64:13
 store-name-requires : tie.Need-store-name-requires
 store-name-requires c κs =
     let q = admit-at (versionOf (c .before .before .before .before .before .before .before .before .before .before .before .before .before .before .before .before .before .before .args .view) (c .before .before .before .before .before .before .before .before .before .before .before .before .before .before .before .before .before .before .args .image .now) .verified) (c .before .before .before .before .before .before .before .before .before .before .before .before .before .before .before .before .before .before .args .view .level4 .log) (c .before .before .before .before .before .before .before .before .before .before .before .before .before .before .before .before .before .before .args .t) _ (c .before .before .before .before .before .before .before .before .before .before .before .before .before .before .before .before .before .before .args .e) _ (sym (c .before .before .before .before .before .before .before .before .before .before .reach .ensures .0) ∙ c .before .before .before .before .before .before .found2 .given .1) in
     (c .before .before .before .before .before .before .before .before .before .before .before .before .before .before .before .before .before .before .pre .0 .rules, omega (arith, q .2, c .before .before .before .before .before .before .before .before .before .before .before .before .before .before .before .before .before .before .pre .2, c .before .before .before .before .before .before .before .before .before .before .before .before .before .before .before .before .before .before .pre .1, place-ends (c .before .before .before .before .before .before .before .before .before .before .before .before .before .before .before .before .before .before .args .t) (c .before .before .before .before .before .before .before .before .before .before .before .before .before .before .before .before .before .before .args .e) (q .1)))
 
--- src/meeting.rt:65:25
 add-t24 : tie.Need-add-t24
 add-t24 c =
     let q = admit-at (versionOf (c .before .before .before .before .before .before .before .before .before .before .before .before .before .before .before .before .before .before .before .before .before .args .view) (c .before .before .before .before .before .before .before .before .before .before .before .before .before .before .before .before .before .before .before .before .before .args .image .now) .verified) (c .before .before .before .before .before .before .before .before .before .before .before .before .before .before .before .before .before .before .before .before .before .args .view .level4 .log) (c .before .before .before .before .before .before .before .before .before .before .before .before .before .before .before .before .before .before .before .before .before .args .t) _ (c .before .before .before .before .before .before .before .before .before .before .before .before .before .before .before .before .before .before .before .before .before .args .e) _ (sym (c .before .before .before .before .before .before .before .before .before .before .before .before .before .reach .ensures .0) ∙ c .before .before .before .before .before .before .before .before .before .found2 .given .1) in
     omega (arith, c .before .before .before .before .before .before .before .before .before .before .before .before .before .before .before .before .before .before .before .before .before .pre .4, left-pos (marked (c .before .before .before .before .before .before .before .before .before .before .before .before .before .before .before .before .before .before .before .before .before .args .marks .now)) (c .before .before .before .before .before .before .before .before .before .before .before .before .before .before .before .before .before .before .before .before .before .args .e) (c .before .before .before .before .before .before .before .before .before .before .before .before .before .before .before .before .before .before .before .before .before .args .t .max) (q .1) (sym (c .before .before .before .before .before .before .before .before .before .before .before .before .before .before .is-marked .ensures) ∙ q .0))
 
--- src/meeting.rt:42:1
 same-length : tie.Need-same-length
 same-length c = search needs
 
--- src/meeting.rt:42:1
 same-length-2 : tie.Need-same-length-2
 same-length-2 c = search needs
 
--- src/meeting.rt:42:1
 returns : tie.Need-returns
 returns c =
     let m = meets-invalid (c .before .before .before .before .before .before .before .before .before .before .before .before .args .t) (c .before .before .before .before .before .before .before .before .before .before .before .before .args .kind) (c .before .before .before .before .before .before .before .before .before .before .before .before .args .e) (c .before .before .before .before .before .before .before .before .before .before .before .before .args .n) (versionOf (c .before .before .before .before .before .before .before .before .before .before .before .before .args .view) (c .before .before .before .before .before .before .before .before .before .before .before .before .args .image .now) .bytes) (c .before .before .before .before .before .before .before .before .before .before .before .before .args .marks .now) (c .before .before .before .before .before .before .before .before .before .before .before .before .args .row .now) _ _ _ (sym (c .before .before .before .before .reach .ensures .0 ∙ ap (λ (x : Bool). admit (versionOf (c .before .before .before .before .before .before .before .before .before .before .before .before .args .view) (c .before .before .before .before .before .before .before .before .before .before .before .before .args .image .now) .verified) (c .before .before .before .before .before .before .before .before .before .before .before .before .args .view .level4 .log) (c .before .before .before .before .before .before .before .before .before .before .before .before .args .t) x (c .before .before .before .before .before .before .before .before .before .before .before .before .args .e)) (c .before .before .before .before .before .is-marked .ensures)) ∙ c .enum-told .given .1) in
     (m .0, (m .1, c .before .before .before .before .reach .ensures .1))
 
--- src/meeting.rt:42:1
 same-length-3 : tie.Need-same-length-3
 same-length-3 c = search needs
 
--- src/meeting.rt:42:1
 same-length-4 : tie.Need-same-length-4
 same-length-4 c = search needs
 
--- src/meeting.rt:42:1
 returns-2 : tie.Need-returns-2
 returns-2 c =
     let m = meets-unverified (c .before .before .before .before .before .before .before .before .before .before .before .before .before .args .t) (c .before .before .before .before .before .before .before .before .before .before .before .before .before .args .kind) (c .before .before .before .before .before .before .before .before .before .before .before .before .before .args .e) (c .before .before .before .before .before .before .before .before .before .before .before .before .before .args .n) (versionOf (c .before .before .before .before .before .before .before .before .before .before .before .before .before .args .view) (c .before .before .before .before .before .before .before .before .before .before .before .before .before .args .image .now) .bytes) (c .before .before .before .before .before .before .before .before .before .before .before .before .before .args .marks .now) (c .before .before .before .before .before .before .before .before .before .before .before .before .before .args .row .now) _ _ _ _ (sym (c .before .before .before .before .before .reach .ensures .0 ∙ ap (λ (x : Bool). admit (versionOf (c .before .before .before .before .before .before .before .before .before .before .before .before .before .args .view) (c .before .before .before .before .before .before .before .before .before .before .before .before .before .args .image .now) .verified) (c .before .before .before .before .before .before .before .before .before .before .before .before .before .args .view .level4 .log) (c .before .before .before .before .before .before .before .before .before .before .before .before .before .args .t) x (c .before .before .before .before .before .before .before .before .before .before .before .before .before .args .e)) (c .before .before .before .before .before .before .is-marked .ensures)) ∙ c .before .found .given .1) in
     (m .0, (m .1, c .before .before .before .before .before .reach .ensures .1))
 
--- src/meeting.rt:42:1
 same-length-5 : tie.Need-same-length-5
 same-length-5 c = search needs
 
--- src/meeting.rt:42:1
 same-length-6 : tie.Need-same-length-6
 same-length-6 c = search needs
 
--- src/meeting.rt:42:1
 same-length-7 : tie.Need-same-length-7
 same-length-7 c = search needs
 
--- src/meeting.rt:42:1
 returns-3 : tie.Need-returns-3
 returns-3 c =
     let q = admit-at (versionOf (c .before .before .before .before .before .before .before .before .before .before .before .before .before .before .before .before .before .before .before .before .before .args .view) (c .before .before .before .before .before .before .before .before .before .before .before .before .before .before .before .before .before .before .before .before .before .args .image .now) .verified) (c .before .before .before .before .before .before .before .before .before .before .before .before .before .before .before .before .before .before .before .before .before .args .view .level4 .log) (c .before .before .before .before .before .before .before .before .before .before .before .before .before .before .before .before .before .before .before .before .before .args .t) _ (c .before .before .before .before .before .before .before .before .before .before .before .before .before .before .before .before .before .before .before .before .before .args .e) _ (sym (c .before .before .before .before .before .before .before .before .before .before .before .before .before .reach .ensures .0) ∙ c .before .before .before .before .before .before .before .before .before .found2 .given .1) in

@@ -1,49 +1,36 @@
+-- `entries::reading::read_at` meets its contract. Assumes nothing.
 use native.Mathlib.Omega.{arith}
-use mathlib.Core.Path.{_∙_}
 use Rattle.entries.proofs.ReadLaws.{size-small, log-small, touched, read-whole, read-refused}
 use borrow.Author.Needs.{needs}
 use Rattle.entries.proofs.reading.read_at.Statement.{statement}
 use Rattle.entries.proofs.reading.read_at.Tie as tie
-use Rattle.entries.proofs.reading.read_at.Reads as reads
-use Rattle.entries.proofs.reading.read_at.Lts as lts
-use Rattle.entries.proofs.reading.first_unknown.Reads as first-unknown-reads
-use Rattle.number.proofs.blocks.block_of.Reads as block-of-reads
 
--- src/reading.rt:45:44
 sub-block-of : tie.Need-sub-block-of
 sub-block-of c = search needs
 
--- src/reading.rt:45:38
 add-block-of : tie.Need-add-block-of
 add-block-of c = omega (arith, c .before .before .pre .2, size-small (c .before .before .args .view) _ (c .before .before .pre .0 .rules))
 
--- src/reading.rt:45:9
 block-of-requires : tie.Need-block-of-requires
 block-of-requires c κs = omega (arith, log-small (c .before .before .args .view) _ (c .before .before .pre .0 .rules))
 
--- src/reading.rt:46:47
 block-of-requires-2 : tie.Need-block-of-requires-2
 block-of-requires-2 c κs = omega (arith, log-small (c .before .before .before .before .args .view) _ (c .before .before .before .before .pre .0 .rules))
 
--- src/reading.rt:46:9
 first-unknown-requires : tie.Need-first-unknown-requires
 first-unknown-requires c κs =
     let t = touched (c .before .before .before .before .before .args .view .level4) (c .before .before .before .before .before .args .at) (c .before .before .before .before .before .args .n) (c .before .before .before .before .before .pre .1) (c .before .before .before .before .before .pre .2) in
     (c .before .before .before .before .before .pre .0, omega (arith, t .0, c .before .before .block-of .ensures, c .block-of2 .ensures), omega (arith, t .1, c .before .before .block-of .ensures))
 
--- src/reading.rt:41:1
 same-length : tie.Need-same-length
 same-length c = search needs
 
--- src/reading.rt:41:1
 returns : tie.Need-returns
 returns c = (read-whole (c .before .before .before .before .before .before .before .before .before .args .view) (c .before .before .before .before .before .before .before .before .before .args .image .now) (c .before .before .before .before .before .before .before .before .before .args .at) (c .before .before .before .before .before .before .before .before .before .args .n) _ _ _ (c .before .before .before .before .before .before .before .before .before .pre .1) (c .before .before .before .before .before .before .before .before .before .pre .2) (c .before .before .before .before .block-of2 .ensures) (c .before .before .before .before .before .before .block-of .ensures) (c .before .before .before .first-unknown .ensures .0) (c .if1 .taken), c .before .before .before .first-unknown .ensures .1)
 
--- src/reading.rt:41:1
 same-length-2 : tie.Need-same-length-2
 same-length-2 c = search needs
 
--- src/reading.rt:41:1
 returns-2 : tie.Need-returns-2
 returns-2 c = (read-refused (c .before .before .before .before .before .before .before .before .before .args .view) (c .before .before .before .before .before .before .before .before .before .args .image .now) (c .before .before .before .before .before .before .before .before .before .args .at) (c .before .before .before .before .before .before .before .before .before .args .n) _ _ _ (c .before .before .before .before .before .before .before .before .before .pre .1) (c .before .before .before .before .before .before .before .before .before .pre .2) (c .before .before .before .before .block-of2 .ensures) (c .before .before .before .before .before .before .block-of .ensures) (c .before .before .before .first-unknown .ensures .0) (c .if1 .left), c .before .before .before .first-unknown .ensures .1)
 

@@ -1,3 +1,4 @@
+-- `entries::reading::store_name` meets its contract. Assumes nothing.
 use mathlib.Core.Path.{sym, ap, _∙_}
 use mathlib.Core.List.{List, _++_}
 use Prim.Native.Nat.{ℕ, _/_}
@@ -11,48 +12,34 @@ use Rattle.entries.proofs.ReadLaws.{level4-is, bytes-at}
 use borrow.Author.Needs.{needs}
 use Rattle.entries.proofs.reading.store_name.Statement.{statement}
 use Rattle.entries.proofs.reading.store_name.Tie as tie
-use Rattle.entries.proofs.reading.store_name.Reads as reads
-use Rattle.entries.proofs.reading.store_name.Lts as lts
-use Rattle.ivfc.proofs.gathering.gather.Reads as gather-reads
-use Rattle.names.proofs.records.has_room.Reads as has-room-reads
-use Rattle.names.proofs.records.put_record.Reads as put-record-reads
 
--- src/reading.rt:69:8
 has-room-requires : tie.Need-has-room-requires
 has-room-requires c κs = search needs
 
--- src/reading.rt:71:36
 slice-aggregate-gather : tie.Need-slice-aggregate-gather
 slice-aggregate-gather c = search needs
 
--- src/reading.rt:71:9
 gather-requires : tie.Need-gather-requires
 gather-requires c κs = (c .before .before .before .before .before .before .pre .0, omega arith, rw (level4-is (c .before .before .before .before .before .before .args .view)) (c .before .before .before .before .before .before .pre .1))
 
--- src/reading.rt:72:37
 slice-aggregate-put-record : tie.Need-slice-aggregate-put-record
 slice-aggregate-put-record c = search needs
 
--- src/reading.rt:72:9
 put-record-requires : tie.Need-put-record-requires
 put-record-requires c κs =
     (ltb-true (c .before .before .before .before .before .before .before .before .before .before .args .n) (length (c .before .before .before .before .before .before .before .before .before .before .args .row .now) / 24) (sym (c .before .before .before .before .before .before .has-room .ensures) ∙ c .before .before .before .before .before .if1 .taken), ap length (c .before .before .before .gather .ensures) ∙ length-bytes _ _ 16)
 
--- src/reading.rt:65:1
 same-length : tie.Need-same-length
 same-length c = search needs
 
--- src/reading.rt:65:1
 returns : tie.Need-returns
 returns c =
     c .before .before .put-record .ensures
     ∙ ap (λ (l : List ℕ). putRecord (c .before .before .before .before .before .before .before .before .before .before .before .before .before .args .row .now) (c .before .before .before .before .before .before .before .before .before .before .before .before .before .args .n) (head (c .before .before .before .before .before .before .before .before .before .before .before .before .before .args .kind) (c .before .before .before .before .before .before .before .before .before .before .before .before .before .args .e) ++ l)) (c .before .before .before .before .before .before .gather .ensures ∙ bytes-at (c .before .before .before .before .before .before .before .before .before .before .before .before .before .args .view) (c .before .before .before .before .before .before .before .before .before .before .before .before .before .args .image .now) (c .before .before .before .before .before .before .before .before .before .before .before .before .before .args .at) 16 (c .before .before .before .before .before .before .before .before .before .before .before .before .before .pre .1))
 
--- src/reading.rt:65:1
 same-length-2 : tie.Need-same-length-2
 same-length-2 c = search needs
 
--- src/reading.rt:65:1
 returns-2 : tie.Need-returns-2
 returns-2 c = record-none (c .before .before .before .before .before .args .row .now) (c .before .before .before .before .before .args .n) _ (sym (c .before .has-room .ensures) ∙ c .if1 .left)
 

@@ -1,33 +1,24 @@
+-- `names::header::skipped` meets its contract. Assumes nothing.
 use Rattle.names.proofs.OpenLaws.{words-mul, skip-is}
-use mathlib.Core.Path.{_≡_, refl, sym, ap, _∙_}
 use borrow.Author.Needs.{needs}
 use Rattle.names.proofs.header.skipped.Statement.{statement}
 use Rattle.names.proofs.header.skipped.Tie as tie
-use Rattle.names.proofs.header.skipped.Reads as reads
-use Rattle.names.proofs.header.skipped.Lts as lts
-use Rattle.number.proofs.fields.field4.Reads as field4-reads
 
--- src/opening.rt:40:17
 field4-requires : tie.Need-field4-requires
 field4-requires c κs = search needs
 
--- src/opening.rt:40:17
 cast-start : tie.Need-cast-start
 cast-start c = search needs
 
--- src/opening.rt:41:17
 field4-requires-2 : tie.Need-field4-requires-2
 field4-requires-2 c κs = search needs
 
--- src/opening.rt:41:17
 cast-block : tie.Need-cast-block
 cast-block c = search needs
 
--- src/opening.rt:42:5
 mul-result : tie.Need-mul-result
 mul-result c = record { fits = words-mul (c .before .field4 .result) (c .field42 .result) (c .before .field4 .ok) (c .field42 .ok) }
 
--- src/opening.rt:36:1
 returns : tie.Need-returns
 returns c = skip-is (c .before .before .before .args .header .now) (c .before .before .before .args .field) (c .before .field4 .result) (c .field42 .result) (c .before .field4 .ensures) (c .field42 .ensures)
 

@@ -1,30 +1,21 @@
+-- `names::header::table_inside` meets its contract. Assumes nothing.
 use Rattle.names.proofs.OpenLaws.{table-in, table-out}
 use borrow.Author.Needs.{needs}
 use Rattle.names.proofs.header.table_inside.Statement.{statement}
 use Rattle.names.proofs.header.table_inside.Tie as tie
-use Rattle.names.proofs.header.table_inside.Reads as reads
-use Rattle.names.proofs.header.table_inside.Lts as lts
-use Rattle.names.proofs.header.skipped.Reads as skipped-reads
-use Rattle.number.proofs.fields.field8.Reads as field8-reads
-use Rattle.number.proofs.ranges.lies_inside.Reads as lies-inside-reads
 
--- src/opening.rt:49:9
 field8-requires : tie.Need-field8-requires
 field8-requires c κs = search needs
 
--- src/opening.rt:51:9
 skipped-requires : tie.Need-skipped-requires
 skipped-requires c κs = search needs
 
--- src/opening.rt:53:9
 lies-inside-requires : tie.Need-lies-inside-requires
 lies-inside-requires c κs = search needs
 
--- src/opening.rt:45:1
 returns : tie.Need-returns
 returns c = table-in (c .before .before .before .before .before .args .header .now) (c .before .before .before .before .before .args .size) (c .before .before .before .before .before .args .field) (c .before .before .before .before .before .args .bytes) (c .before .before .before .field8 .result) (c .before .before .skipped .result) _ (c .before .before .before .field8 .ensures) (c .before .before .skipped .ensures) (c .before .if1 .taken) (c .lies-inside .ensures)
 
--- src/opening.rt:45:1
 returns-2 : tie.Need-returns-2
 returns-2 c = table-out (c .before .before .before .before .args .header .now) (c .before .before .before .before .args .size) (c .before .before .before .before .args .field) (c .before .before .before .before .args .bytes) (c .before .before .field8 .result) (c .before .skipped .result) (c .before .before .field8 .ensures) (c .before .skipped .ensures) (c .if1 .left)
 

@@ -1,56 +1,40 @@
+-- `save::calls::find_file` meets its contract. Assumes nothing.
 use Rattle.number.proofs.Tests.{failed, passed}
 use Rattle.steps.proofs.CallLaws.{places, committed-keeps}
 use Rattle.save.proofs.CallLaws.{holds-there, find-unopened, find-other, find-there}
 use borrow.Author.Needs.{needs}
 use Rattle.save.proofs.calls.find_file.Statement.{statement}
 use Rattle.save.proofs.calls.find_file.Tie as tie
-use Rattle.save.proofs.calls.find_file.Reads as reads
-use Rattle.save.proofs.calls.find_file.Lts as lts
-use Rattle.layout.proofs.opening.open.Reads as open-reads
-use Rattle.save.proofs.viewing.find_in.Reads as find-in-reads
-use Rattle.save.proofs.viewing.holds_save.Reads as holds-save-reads
-use Rattle.steps.proofs.answers.refusal_of.Reads as refusal-of-reads
-use Rattle.views.proofs.places.committed_view.Reads as committed-view-reads
 
--- src/calls.rt:34:9
 open-requires : tie.Need-open-requires
 open-requires c κs = search needs
 
--- src/calls.rt:35:23
 enum-known-answer : tie.Need-enum-known-answer
 enum-known-answer c = search needs
 
--- src/calls.rt:36:32
 enum-told : tie.Need-enum-told
 enum-told c = search needs
 
--- src/calls.rt:36:32
 refusal-of-requires : tie.Need-refusal-of-requires
 refusal-of-requires c κs = search needs
 
--- src/calls.rt:36:9
 returns : tie.Need-returns
 returns c = find-unopened (c .before .before .before .before .before .args .image .now) _ (c .before .before .before .«open» .ensures) (c .before .before .before .before .before .args .folder) (c .before .before .before .before .before .args .name .now) _ _ (c .before .enum-told .given .1) (c .refusal-of .ensures)
 
--- src/calls.rt:38:9
 holds-save-requires : tie.Need-holds-save-requires
 holds-save-requires c κs = search needs
 
--- src/calls.rt:39:9
 returns-2 : tie.Need-returns-2
 returns-2 c = find-other (c .before .before .before .before .before .before .before .args .image .now) _ (c .before .before .before .before .before .«open» .ensures) _ (c .before .before .before .answer .given .1) (c .before .before .before .before .before .before .before .args .folder) (c .before .before .before .before .before .before .before .args .name .now) (failed (c .before .holds-save .ensures) (c .if1 .taken))
 
--- src/calls.rt:41:13
 committed-view-requires : tie.Need-committed-view-requires
 committed-view-requires c κs =
     places (c .before .before .before .before .before .before .before .args .image .now) _ (c .before .before .before .before .before .«open» .ensures) 0 _ (c .before .before .before .answer .given .1) (holds-there _ (passed (c .before .holds-save .ensures) (c .if1 .left)))
 
--- src/calls.rt:41:5
 find-in-requires : tie.Need-find-in-requires
 find-in-requires c κs =
     committed-keeps (c .before .before .before .before .before .before .before .before .before .args .image .now) _ (c .before .before .before .before .before .before .before .«open» .ensures) 0 _ (c .before .before .before .before .before .answer .given .1) (holds-there _ (passed (c .before .before .before .holds-save .ensures) (c .before .before .if1 .left))) _ (c .before .committed-view .ensures)
 
--- src/calls.rt:31:1
 returns-3 : tie.Need-returns-3
 returns-3 c =
     find-there (c .before .before .before .before .before .before .before .before .before .before .args .image .now) _ (c .before .before .before .before .before .before .before .before .«open» .ensures) _ (c .before .before .before .before .before .before .answer .given .1) (c .before .before .before .before .before .before .before .before .before .before .args .folder) (c .before .before .before .before .before .before .before .before .before .before .args .name .now) (passed (c .before .before .before .before .holds-save .ensures) (c .before .before .before .if1 .left)) _ (c .before .before .committed-view .ensures) _ (c .find-in .ensures)

@@ -1,61 +1,45 @@
+-- `save::calls::list_names` meets its contract. Assumes nothing.
 use Rattle.number.proofs.Tests.{failed, passed}
 use Rattle.steps.proofs.CallLaws.{places, committed-keeps}
 use Rattle.save.proofs.CallLaws.{holds-there, holds-internal, list-unopened, list-other, list-there}
 use borrow.Author.Needs.{needs}
 use Rattle.save.proofs.calls.list_names.Statement.{statement}
 use Rattle.save.proofs.calls.list_names.Tie as tie
-use Rattle.save.proofs.calls.list_names.Reads as reads
-use Rattle.save.proofs.calls.list_names.Lts as lts
-use Rattle.layout.proofs.opening.open.Reads as open-reads
-use Rattle.save.proofs.viewing.holds_save.Reads as holds-save-reads
-use Rattle.save.proofs.viewing.list_view.Reads as list-view-reads
-use Rattle.steps.proofs.answers.refusal_of.Reads as refusal-of-reads
-use Rattle.views.proofs.places.committed_view.Reads as committed-view-reads
 
--- src/calls.rt:20:9
 open-requires : tie.Need-open-requires
 open-requires c κs = search needs
 
--- src/calls.rt:21:23
 enum-known-answer : tie.Need-enum-known-answer
 enum-known-answer c = search needs
 
--- src/calls.rt:22:32
 enum-told : tie.Need-enum-told
 enum-told c = search needs
 
--- src/calls.rt:22:32
 refusal-of-requires : tie.Need-refusal-of-requires
 refusal-of-requires c κs = search needs
 
--- src/calls.rt:22:9
 returns : tie.Need-returns
 returns c = list-unopened (c .before .before .before .before .before .before .args .image .now) _ (c .before .before .before .«open» .ensures) (c .before .before .before .before .before .before .args .row .now) _ _ (c .before .enum-told .given .1) (c .refusal-of .ensures)
 
--- src/calls.rt:24:9
 holds-save-requires : tie.Need-holds-save-requires
 holds-save-requires c κs = search needs
 
--- src/calls.rt:25:9
 returns-2 : tie.Need-returns-2
 returns-2 c = list-other (c .before .before .before .before .before .before .before .before .args .image .now) _ (c .before .before .before .before .before .«open» .ensures) _ (c .before .before .before .answer .given .1) (c .before .before .before .before .before .before .before .before .args .row .now) (failed (c .before .holds-save .ensures) (c .if1 .taken))
 
--- src/calls.rt:27:15
 committed-view-requires : tie.Need-committed-view-requires
 committed-view-requires c κs =
     places (c .before .before .before .before .before .before .before .before .args .image .now) _ (c .before .before .before .before .before .«open» .ensures) 0 _ (c .before .before .before .answer .given .1) (holds-there _ (passed (c .before .holds-save .ensures) (c .if1 .left)))
 
--- src/calls.rt:27:5
 list-view-requires : tie.Need-list-view-requires
-list-view-requires c κs =
-    (committed-keeps (c .before .before .before .before .before .before .before .before .before .before .args .image .now) _ (c .before .before .before .before .before .before .before .«open» .ensures) 0 _ (c .before .before .before .before .before .answer .given .1) (holds-there _ (passed (c .before .before .before .holds-save .ensures) (c .before .before .if1 .left))) _ (c .before .committed-view .ensures),
-    holds-internal _ (passed (c .before .before .before .holds-save .ensures) (c .before .before .if1 .left)) _ (c .before .committed-view .ensures))
+list-view-requires c κs = (
+  committed-keeps (c .before .before .before .before .before .before .before .before .before .before .args .image .now) _ (c .before .before .before .before .before .before .before .«open» .ensures) 0 _ (c .before .before .before .before .before .answer .given .1) (holds-there _ (passed (c .before .before .before .holds-save .ensures) (c .before .before .if1 .left))) _ (c .before .committed-view .ensures),
+  holds-internal _ (passed (c .before .before .before .holds-save .ensures) (c .before .before .if1 .left)) _ (c .before .committed-view .ensures),
+)
 
--- src/calls.rt:16:1
 same-length : tie.Need-same-length
 same-length c = search needs
 
--- src/calls.rt:16:1
 returns-3 : tie.Need-returns-3
 returns-3 c =
     list-there (c .before .before .before .before .before .before .before .before .before .before .before .before .before .args .image .now) _ (c .before .before .before .before .before .before .before .before .before .before .«open» .ensures) _ (c .before .before .before .before .before .before .before .before .answer .given .1) (c .before .before .before .before .before .before .before .before .before .before .before .before .before .args .row .now) (passed (c .before .before .before .before .before .before .holds-save .ensures) (c .before .before .before .before .before .if1 .left)) _ (c .before .before .before .before .committed-view .ensures) _ _ (c .before .before .list-view .ensures)

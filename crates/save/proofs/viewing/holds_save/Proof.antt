@@ -1,18 +1,14 @@
+-- `save::viewing::holds_save` meets its contract. Assumes nothing.
 use Rattle.save.specs.Calls.{holdsSave}
 use mathlib.Core.Bool.{_&&_, not}
 use lib.Dec.{eqb}
 use borrow.Author.Needs.{needs}
 use Rattle.save.proofs.viewing.holds_save.Statement.{statement}
 use Rattle.save.proofs.viewing.holds_save.Tie as tie
-use Rattle.save.proofs.viewing.holds_save.Reads as reads
-use Rattle.save.proofs.viewing.holds_save.Lts as lts
-use Rattle.save.proofs.viewing.is_disa.Reads as is-disa-reads
 
--- src/viewing.rt:41:5
 is-disa-requires : tie.Need-is-disa-requires
 is-disa-requires c κs = search needs
 
--- src/viewing.rt:36:1
 returns : tie.Need-returns
 unfolding holdsSave
 returns c = λ i. c .before .before .is-disa .ensures i && (eqb (c .before .before .before .before .args .c .header .count) 1 && not (c .before .before .before .before .args .c .a .difi .external))

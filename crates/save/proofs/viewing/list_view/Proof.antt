@@ -1,4 +1,5 @@
-use mathlib.Core.Path.{sym, ap, _∙_}
+-- `save::viewing::list_view` meets its contract. Assumes nothing.
+use mathlib.Core.Path.{ap, _∙_}
 use Rattle.views.specs.Versions.{versionOf}
 use Rattle.names.specs.Listing.{listing}
 use Rattle.save.specs.Calls.{Names}
@@ -6,62 +7,45 @@ use Rattle.save.proofs.CallLaws.{legible, names-are, save-listable, wal
 use borrow.Author.Needs.{needs}
 use Rattle.save.proofs.viewing.list_view.Statement.{statement}
 use Rattle.save.proofs.viewing.list_view.Tie as tie
-use Rattle.save.proofs.viewing.list_view.Reads as reads
-use Rattle.save.proofs.viewing.list_view.Lts as lts
-use Rattle.save.proofs.viewing.listed_by.Reads as listed-by-reads
-use Rattle.walks.proofs.listing.list_all.Reads as list-all-reads
-use Rattle.walks.proofs.opening.open_save.Reads as open-save-reads
 
--- src/viewing.rt:61:42
 slice-aggregate-open-save : tie.Need-slice-aggregate-open-save
 slice-aggregate-open-save c = search needs
 
--- src/viewing.rt:61:9
 open-save-requires : tie.Need-open-save-requires
 open-save-requires c κs = legible (c .before .before .before .args .view) (c .before .before .before .args .image .now) 262144 (c .before .before .before .pre .0)
 
--- src/viewing.rt:63:47
 enum-told : tie.Need-enum-told
 enum-told c = search needs
 
--- src/viewing.rt:64:32
 enum-known-entered : tie.Need-enum-known-entered
 enum-known-entered c = search needs
 
--- src/viewing.rt:65:27
 enum-known-entered-2 : tie.Need-enum-known-entered-2
 enum-known-entered-2 c = search needs
 
--- src/viewing.rt:65:68
 slice-aggregate-list-all : tie.Need-slice-aggregate-list-all
 slice-aggregate-list-all c = search needs
 
--- src/viewing.rt:65:43
 list-all-requires : tie.Need-list-all-requires
 list-all-requires c κs =
     (record { rules = c .before .before .before .before .before .before .before .before .before .before .pre .0; knows = c .before .before .before .before .before .before .open-save .ensures .1 }, save-listable (c .before .before .before .before .before .before .before .before .before .before .args .view) (c .before .before .before .before .before .before .before .before .before .before .args .image .now) _ (c .before .before .before .before .before .before .open-save .ensures .0) _ (c .before .before .before .entered2 .given .1) (c .before .before .before .before .before .before .before .before .before .before .pre .0) (c .before .before .before .before .before .before .before .before .before .before .pre .1))
 
--- src/viewing.rt:65:33
 listed-by-requires : tie.Need-listed-by-requires
 listed-by-requires c κs = search needs
 
--- src/viewing.rt:55:1
 returns : tie.Need-returns
 returns c =
     let n = names-are (c .before .before .before .before .before .before .before .args .view) (c .before .before .before .before .before .before .before .args .image .now) _ (c .before .before .before .open-save .ensures .0) (c .before .before .before .before .before .before .before .args .row .now) _ (c .enum-told .given .1) in
     (ap (λ (x : Names). x .answer) n, ap (λ (x : Names). x .row) n)
 
--- src/viewing.rt:55:1
 returns-2 : tie.Need-returns-2
 returns-2 c =
     let n = names-are (c .before .before .before .before .before .before .before .before .args .view) (c .before .before .before .before .before .before .before .before .args .image .now) _ (c .before .before .before .before .open-save .ensures .0) (c .before .before .before .before .before .before .before .before .args .row .now) _ (c .before .entered .given .1) in
     (ap (λ (x : Names). x .answer) n, ap (λ (x : Names). x .row) n)
 
--- src/viewing.rt:55:1
 same-length : tie.Need-same-length
 same-length c = search needs
 
--- src/viewing.rt:55:1
 returns-3 : tie.Need-returns-3
 returns-3 c =
     let n = names-are (c .before .before .before .before .before .before .before .before .before .before .before .before .before .before .before .args .view) (c .before .before .before .before .before .before .before .before .before .before .before .before .before .before .before .args .image .now) _ (c .before .before .before .before .before .before .before .before .before .before .before .open-save .ensures .0) (c .before .before .before .before .before .before .before .before .before .before .before .before .before .before .before .args .row .now) _ (c .before .before .before .before .before .before .before .before .entered2 .given .1) in

@@ -1,38 +1,29 @@
+-- `save::viewing::sought_by` meets its contract. Assumes nothing.
 use borrow.Author.Needs.{needs}
 use Rattle.save.proofs.viewing.sought_by.Statement.{statement}
 use Rattle.save.proofs.viewing.sought_by.Tie as tie
-use Rattle.save.proofs.viewing.sought_by.Reads as reads
-use Rattle.save.proofs.viewing.sought_by.Lts as lts
 
--- src/viewing.rt:74:22
 enum-known-found : tie.Need-enum-known-found
 enum-known-found c = search needs
 
--- src/viewing.rt:75:28
 enum-told : tie.Need-enum-told
 enum-told c = search needs
 
--- src/viewing.rt:76:44
 enum-told-2 : tie.Need-enum-told-2
 enum-told-2 c = search needs
 
--- src/viewing.rt:77:28
 enum-known-found-2 : tie.Need-enum-known-found-2
 enum-known-found-2 c = search needs
 
--- src/viewing.rt:70:1
 returns : tie.Need-returns
 returns c = rw (c .before .found .given .1)
 
--- src/viewing.rt:70:1
 returns-2 : tie.Need-returns-2
 returns-2 c = search needs
 
--- src/viewing.rt:70:1
 returns-3 : tie.Need-returns-3
 returns-3 c = rw (c .enum-told2 .given .1)
 
--- src/viewing.rt:70:1
 returns-4 : tie.Need-returns-4
 returns-4 c = rw (c .before .found2 .given .1)
 

@@ -1,10 +1,10 @@
-use Rattle.steps.specs.Sessions.{idle}
+use Rattle.steps.specs.Sessions.{idle, nothing}
 use mathlib.Core.Path.{refl}
 use Rattle.steps.proofs.writing.idle_session.Statement.{statement}
 use Rattle.steps.proofs.writing.idle_session.Tie as tie
 
 returns : tie.Need-returns
-unfolding idle
+unfolding idle nothing
 returns c = refl
 
 pub idle-session-spec : {M : Type 1} → statement M

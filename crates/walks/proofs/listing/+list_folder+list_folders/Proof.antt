@@ -1,3 +1,4 @@
+-- `walks::listing::+list_folder+list_folders` meets its contract. Assumes nothing.
 use Prim.Native.Nat.{ℕ, suc, _+_, _≤_}
 use mathlib.Core.Path.{_≡_, refl, sym, ap, _∙_}
 use mathlib.Core.List.{List, _∷_}
@@ -5,13 +6,12 @@ use native.Mathlib.Omega.{arith}
 use native.Mathlib.Numerals.{add-one}
 use lib.ListN.{length}
 use Rattle.views.specs.Versions.{versionOf}
-use Rattle.names.specs.Entries.{firstFile, firstFolder}
+use Rattle.names.specs.Entries.{firstFolder}
 use Rattle.names.specs.Listing.{Entry, Outcome, folder, next, files, folders}
 use Rattle.names.specs.Walks.{Holds, unvisited}
 use Rattle.names.proofs.EntryLaws.{place-ends}
 use Rattle.names.proofs.WalkLaws.{Onward, onward-start, stops, stops-goes, stops-fewer, goes-on, fewer-on, goes-met, fewer-met, ready-on, gained, met-own, folder-held, folder-deep, folder-stops, folder-opens, walks-stop, walks-met, folders-go, folders-stop, folders-end}
 use Rattle.entries.specs.Known.{Knows}
-use Rattle.entries.proofs.ReadLaws.{size-small}
 use Prim.Native.Nat.{ℕ, _<_}
 use borrow.Fn.Kinds.{In}
 use borrow.Fn.PlainCycle.{Measures, is, falls, and}
@@ -73,35 +73,28 @@ list-folders-callees t = (
   field-of-reads.Learnt,
 )
 
--- src/listing.rt:69:9
 list-folder-returns : (t : ℕ) → list-folder-lts.Need-returns (list-folder-callees t) (list-folder-at t) list-folder.Post
 list-folder-returns t c =
     let a = c .before .before .before .before .before .before .args in
-    (λ base m q h. folder-deep (a .s) (versionOf (a .view) (a .image .now) .bytes) (versionOf (a .view) (a .image .now) .verified) base (a .folder-marks .now) (a .file-marks .now) (a .row .now) (a .depth) (a .e) m _ _ _ (c .if1 .taken), (tt, (tt, c .before .before .before .before .before .before .pre .1 .0 .knows)))
+    (λ base m q h. folder-deep (a .s) (versionOf (a .view) (a .image .now) .bytes) (versionOf (a .view) (a .image .now) .verified) base (a .folder-marks .now) (a .file-marks .now) (a .row .now) (a .depth) (a .e) m _ _ _ (omega (arith, c .if1 .taken)), (tt, (tt, c .before .before .before .before .before .before .pre .1 .0 .knows)))
 
--- src/listing.rt:71:9
 list-folder-meet-requires : (t : ℕ) → list-folder-lts.Need-meet-requires (list-folder-callees t) (list-folder-at t) list-folder.Post
 list-folder-meet-requires t c κs =
     let r = c .before .before .before .before .before .before .before .before .before .pre .1 .1 in
     (c .before .before .before .before .before .before .before .before .before .pre .1 .0, r .folder, r .folders, r .folderRoom, omega (arith, r .count))
 
--- src/listing.rt:82:21
 list-folder-enum-known-own : (t : ℕ) → list-folder-lts.Need-enum-known-own (list-folder-callees t) (list-folder-at t) list-folder.Post
 list-folder-enum-known-own t c = c .match .keys1
 
--- src/listing.rt:83:9
 list-folder-same-length : (t : ℕ) → list-folder-lts.Need-same-length (list-folder-callees t) (list-folder-at t) list-folder.Post
 list-folder-same-length t c = c .before .before .before .before .before .before .before .meet .kept .1 .1 .0
 
--- src/listing.rt:83:9
 list-folder-same-length-2 : (t : ℕ) → list-folder-lts.Need-same-length-2 (list-folder-callees t) (list-folder-at t) list-folder.Post
 list-folder-same-length-2 t c = c .before .before .before .before .before .before .before .meet .kept .1 .1 .1 .1 .1 .0
 
--- src/listing.rt:83:9
 list-folder-same-length-3 : (t : ℕ) → list-folder-lts.Need-same-length-3 (list-folder-callees t) (list-folder-at t) list-folder.Post
 list-folder-same-length-3 t c = c .before .before .before .before .before .before .before .meet .kept .1 .1 .1 .1 .1 .1 .0
 
--- src/listing.rt:83:9
 list-folder-returns-2 : (t : ℕ) → list-folder-lts.Need-returns-2 (list-folder-callees t) (list-folder-at t) list-folder.Post
 list-folder-returns-2 t c =
     let a = c .before .before .before .before .before .before .before .before .before .before .before .before .before .before .before .before .before .args in
@@ -110,39 +103,31 @@ list-folder-returns-2 t c =
       (stops-goes (c .before .before .before .before .before .before .before .meet .result) _ _ _ _ _ stop, (stops-fewer (c .before .before .before .before .before .before .before .meet .result) _ _ _ _ stop, c .before .before .before .before .before .before .before .meet .ensures .1 .1)),
     )
 
--- src/listing.rt:93:9
 list-folder-field-of-requires : (t : ℕ) → list-folder-lts.Need-field-of-requires (list-folder-callees t) (list-folder-at t) list-folder.Post
 list-folder-field-of-requires t c κs =
     let g = gained _ _ _ _ _ _ _ _ _ _ _ _ _ (c .before .before .before .before .before .before .before .before .before .before .before .before .before .before .before .before .before .before .before .before .before .before .before .pre .1 .1 .logs) (sym (c .before .before .before .before .before .own .given .1) ∙ c .before .before .before .before .before .before .before .before .before .before .before .before .before .meet .ensures .0) (c .before .before .before .before .before .before .before .before .before .before .before .before .before .meet .ensures .1 .0) in
     (c .before .before .before .before .before .before .before .before .before .before .before .before .before .before .before .before .before .before .before .before .before .before .before .pre .1 .0 .rules, omega (arith, c .before .before .before .before .before .before .before .before .before .before .before .before .before .before .before .before .before .before .before .before .before .before .before .pre .1 .1 .folders, c .before .before .before .before .before .before .before .before .before .before .before .before .before .before .before .before .before .before .before .before .before .before .before .pre .1 .1 .folder, place-ends (c .before .before .before .before .before .before .before .before .before .before .before .before .before .before .before .before .before .before .before .before .before .before .before .args .s .folders) (c .before .before .before .before .before .before .before .before .before .before .before .before .before .before .before .before .before .before .before .before .before .before .before .args .e) (g .inside)))
 
--- src/listing.rt:85:9
 list-folder-list-files-requires : (t : ℕ) → list-folder-lts.Need-list-files-requires (list-folder-callees t) (list-folder-at t) list-folder.Post
 list-folder-list-files-requires t c κs =
     let g = gained _ _ _ _ _ _ _ _ _ _ _ _ _ (c .before .before .before .before .before .before .before .before .before .before .before .before .before .before .before .before .before .before .before .before .before .before .before .before .pre .1 .1 .logs) (sym (c .before .before .before .before .before .before .own .given .1) ∙ c .before .before .before .before .before .before .before .before .before .before .before .before .before .before .meet .ensures .0) (c .before .before .before .before .before .before .before .before .before .before .before .before .before .before .meet .ensures .1 .0) in
     (record { rules = c .before .before .before .before .before .before .before .before .before .before .before .before .before .before .before .before .before .before .before .before .before .before .before .before .pre .1 .0 .rules; knows = c .before .before .before .before .before .before .before .before .before .before .before .before .before .before .meet .ensures .1 .1 }, ready-on (c .before .before .before .before .before .before .before .before .before .before .before .before .before .before .before .before .before .before .before .before .before .before .before .before .args .s) _ _ _ _ _ _ _ _ (c .before .before .before .before .before .before .before .before .before .before .before .before .before .before .before .before .before .before .before .before .before .before .before .before .pre .1 .1) (c .before .before .before .before .before .before .before .before .before .before .before .before .before .before .meet .kept .1 .1 .1 .1 .1 .0) refl (omega (arith, g .fewer, g .count)))
 
--- src/listing.rt:96:21
 list-folder-enum-known-inside : (t : ℕ) → list-folder-lts.Need-enum-known-inside (list-folder-callees t) (list-folder-at t) list-folder.Post
 list-folder-enum-known-inside t c = c .match2 .keys1
 
--- src/listing.rt:97:9
 list-folder-same-length-4 : (t : ℕ) → list-folder-lts.Need-same-length-4 (list-folder-callees t) (list-folder-at t) list-folder.Post
 list-folder-same-length-4 t c = c .before .before .before .before .before .before .before .list-files .kept .1 .1 .1 .0 ∙ c .before .before .before .before .before .before .before .before .before .before .before .before .before .before .before .before .before .before .before .before .before .before .meet .kept .1 .1 .0
 
--- src/listing.rt:97:9
 list-folder-same-length-5 : (t : ℕ) → list-folder-lts.Need-same-length-5 (list-folder-callees t) (list-folder-at t) list-folder.Post
 list-folder-same-length-5 t c = c .before .before .before .before .before .before .before .before .before .before .before .before .before .before .before .before .before .before .before .before .before .before .meet .kept .1 .1 .1 .1 .1 .0
 
--- src/listing.rt:97:9
 list-folder-same-length-6 : (t : ℕ) → list-folder-lts.Need-same-length-6 (list-folder-callees t) (list-folder-at t) list-folder.Post
 list-folder-same-length-6 t c = c .before .before .before .before .before .before .before .list-files .kept .1 .1 .1 .1 .1 .0
 
--- src/listing.rt:97:9
 list-folder-same-length-7 : (t : ℕ) → list-folder-lts.Need-same-length-7 (list-folder-callees t) (list-folder-at t) list-folder.Post
 list-folder-same-length-7 t c = c .before .before .before .before .before .before .before .list-files .kept .1 .1 .1 .1 .1 .1 .0 ∙ c .before .before .before .before .before .before .before .before .before .before .before .before .before .before .before .before .before .before .before .before .before .before .meet .kept .1 .1 .1 .1 .1 .1 .0
 
--- src/listing.rt:97:9
 list-folder-returns-3 : (t : ℕ) → list-folder-lts.Need-returns-3 (list-folder-callees t) (list-folder-at t) list-folder.Post
 list-folder-returns-3 t c =
     let g = gained _ _ _ _ _ _ _ _ _ _ _ _ _ (c .before .before .before .before .before .before .before .before .before .before .before .before .before .before .before .before .before .before .before .before .before .before .before .before .before .before .before .before .before .before .before .before .pre .1 .1 .logs) (sym (c .before .before .before .before .before .before .before .before .before .before .before .before .before .before .own .given .1) ∙ c .before .before .before .before .before .before .before .before .before .before .before .before .before .before .before .before .before .before .before .before .before .before .meet .ensures .0) (c .before .before .before .before .before .before .before .before .before .before .before .before .before .before .before .before .before .before .before .before .before .before .meet .ensures .1 .0) in
@@ -156,17 +141,14 @@ list-folder-returns-3 t c =
       (stops-goes (c .before .before .before .before .before .before .before .list-files .result) _ _ _ _ _ stop, (stops-fewer (c .before .before .before .before .before .before .before .list-files .result) _ _ _ _ stop, c .before .before .before .before .before .before .before .list-files .ensures .1 .1)),
     )
 
--- src/listing.rt:107:9
 list-folder-field-of-requires-2 : (t : ℕ) → list-folder-lts.Need-field-of-requires-2 (list-folder-callees t) (list-folder-at t) list-folder.Post
 list-folder-field-of-requires-2 t c κs =
     let g = gained _ _ _ _ _ _ _ _ _ _ _ _ _ (c .before .before .before .before .before .before .before .before .before .before .before .before .before .before .before .before .before .before .before .before .before .before .before .before .before .before .before .before .before .before .before .before .before .before .before .before .before .before .pre .1 .1 .logs) (sym (c .before .before .before .before .before .before .before .before .before .before .before .before .before .before .before .before .before .before .before .before .own .given .1) ∙ c .before .before .before .before .before .before .before .before .before .before .before .before .before .before .before .before .before .before .before .before .before .before .before .before .before .before .before .before .meet .ensures .0) (c .before .before .before .before .before .before .before .before .before .before .before .before .before .before .before .before .before .before .before .before .before .before .before .before .before .before .before .before .meet .ensures .1 .0) in
     (c .before .before .before .before .before .before .before .before .before .before .before .before .before .before .before .before .before .before .before .before .before .before .before .before .before .before .before .before .before .before .before .before .before .before .before .before .before .before .pre .1 .0 .rules, omega (arith, c .before .before .before .before .before .before .before .before .before .before .before .before .before .before .before .before .before .before .before .before .before .before .before .before .before .before .before .before .before .before .before .before .before .before .before .before .before .before .pre .1 .1 .folders, c .before .before .before .before .before .before .before .before .before .before .before .before .before .before .before .before .before .before .before .before .before .before .before .before .before .before .before .before .before .before .before .before .before .before .before .before .before .before .pre .1 .1 .folder, place-ends (c .before .before .before .before .before .before .before .before .before .before .before .before .before .before .before .before .before .before .before .before .before .before .before .before .before .before .before .before .before .before .before .before .before .before .before .before .before .before .args .s .folders) (c .before .before .before .before .before .before .before .before .before .before .before .before .before .before .before .before .before .before .before .before .before .before .before .before .before .before .before .before .before .before .before .before .before .before .before .before .before .before .args .e) (g .inside)))
 
--- src/listing.rt:108:9
 list-folder-add-list-folders : (t : ℕ) → list-folder-lts.Need-add-list-folders (list-folder-callees t) (list-folder-at t) list-folder.Post
 list-folder-add-list-folders t c = omega (arith, c .before .before .before .before .before .before .before .before .before .before .before .before .before .before .before .before .before .before .before .before .before .before .before .before .before .before .before .before .before .before .before .before .before .if1 .left)
 
--- src/listing.rt:99:5
 list-folder-list-folders-requires : (t : ℕ) → list-folder-lts.Need-list-folders-requires (list-folder-callees t) (list-folder-at t) list-folder.Post
 list-folder-list-folders-requires t c κs =
     let g = gained _ _ _ _ _ _ _ _ _ _ _ _ _ (c .before .before .before .before .before .before .before .before .before .before .before .before .before .before .before .before .before .before .before .before .before .before .before .before .before .before .before .before .before .before .before .before .before .before .before .before .before .before .before .pre .1 .1 .logs) (sym (c .before .before .before .before .before .before .before .before .before .before .before .before .before .before .before .before .before .before .before .before .before .own .given .1) ∙ c .before .before .before .before .before .before .before .before .before .before .before .before .before .before .before .before .before .before .before .before .before .before .before .before .before .before .before .before .before .meet .ensures .0) (c .before .before .before .before .before .before .before .before .before .before .before .before .before .before .before .before .before .before .before .before .before .before .before .before .before .before .before .before .before .meet .ensures .1 .0) in
@@ -175,23 +157,18 @@ list-folder-list-folders-requires t c κs =
       (record { rules = c .before .before .before .before .before .before .before .before .before .before .before .before .before .before .before .before .before .before .before .before .before .before .before .before .before .before .before .before .before .before .before .before .before .before .before .before .before .before .before .pre .1 .0 .rules; knows = c .before .before .before .before .before .before .before .before .before .before .before .before .before .before .list-files .ensures .1 .1 }, ready-on (c .before .before .before .before .before .before .before .before .before .before .before .before .before .before .before .before .before .before .before .before .before .before .before .before .before .before .before .before .before .before .before .before .before .before .before .before .before .before .before .args .s) _ _ _ _ _ _ _ _ (c .before .before .before .before .before .before .before .before .before .before .before .before .before .before .before .before .before .before .before .before .before .before .before .before .before .before .before .before .before .before .before .before .before .before .before .before .before .before .before .pre .1 .1) (c .before .before .before .before .before .before .before .before .before .before .before .before .before .before .before .before .before .before .before .before .before .before .before .before .before .before .before .before .before .meet .kept .1 .1 .1 .1 .1 .0) (c .before .before .before .before .before .before .before .before .before .before .before .before .before .before .list-files .kept .1 .1 .1 .1 .1 .0) (omega (arith, g .fewer, g .count, w .0))),
     )
 
--- src/listing.rt:50:1
 list-folder-same-length-8 : (t : ℕ) → list-folder-lts.Need-same-length-8 (list-folder-callees t) (list-folder-at t) list-folder.Post
 list-folder-same-length-8 t c = c .before .before .before .before .before .before .before .before .list-folders .kept .1 .1 .1 .0 ∙ c .before .before .before .before .before .before .before .before .before .before .before .before .before .before .before .before .before .before .before .before .before .before .before .list-files .kept .1 .1 .1 .0 ∙ c .before .before .before .before .before .before .before .before .before .before .before .before .before .before .before .before .before .before .before .before .before .before .before .before .before .before .before .before .before .before .before .before .before .before .before .before .before .before .meet .kept .1 .1 .0
 
--- src/listing.rt:50:1
 list-folder-same-length-9 : (t : ℕ) → list-folder-lts.Need-same-length-9 (list-folder-callees t) (list-folder-at t) list-folder.Post
 list-folder-same-length-9 t c = c .before .before .before .before .before .before .before .before .list-folders .kept .1 .1 .1 .1 .0 ∙ c .before .before .before .before .before .before .before .before .before .before .before .before .before .before .before .before .before .before .before .before .before .before .before .before .before .before .before .before .before .before .before .before .before .before .before .before .before .before .meet .kept .1 .1 .1 .1 .1 .0
 
--- src/listing.rt:50:1
 list-folder-same-length-10 : (t : ℕ) → list-folder-lts.Need-same-length-10 (list-folder-callees t) (list-folder-at t) list-folder.Post
 list-folder-same-length-10 t c = c .before .before .before .before .before .before .before .before .list-folders .kept .1 .1 .1 .1 .1 .0 ∙ c .before .before .before .before .before .before .before .before .before .before .before .before .before .before .before .before .before .before .before .before .before .before .before .list-files .kept .1 .1 .1 .1 .1 .0
 
--- src/listing.rt:50:1
 list-folder-same-length-11 : (t : ℕ) → list-folder-lts.Need-same-length-11 (list-folder-callees t) (list-folder-at t) list-folder.Post
 list-folder-same-length-11 t c = c .before .before .before .before .before .before .before .before .list-folders .kept .1 .1 .1 .1 .1 .1 .0 ∙ c .before .before .before .before .before .before .before .before .before .before .before .before .before .before .before .before .before .before .before .before .before .before .before .list-files .kept .1 .1 .1 .1 .1 .1 .0 ∙ c .before .before .before .before .before .before .before .before .before .before .before .before .before .before .before .before .before .before .before .before .before .before .before .before .before .before .before .before .before .before .before .before .before .before .before .before .before .before .meet .kept .1 .1 .1 .1 .1 .1 .0
 
--- src/listing.rt:50:1
 list-folder-returns-4 : (t : ℕ) → list-folder-lts.Need-returns-4 (list-folder-callees t) (list-folder-at t) list-folder.Post
 list-folder-returns-4 t c =
     let g = gained _ _ _ _ _ _ _ _ _ _ _ _ _ (c .before .before .before .before .before .before .before .before .before .before .before .before .before .before .before .before .before .before .before .before .before .before .before .before .before .before .before .before .before .before .before .before .before .before .before .before .before .before .before .before .before .before .before .before .before .before .before .before .pre .1 .1 .logs) (sym (c .before .before .before .before .before .before .before .before .before .before .before .before .before .before .before .before .before .before .before .before .before .before .before .before .before .before .before .before .before .before .own .given .1) ∙ c .before .before .before .before .before .before .before .before .before .before .before .before .before .before .before .before .before .before .before .before .before .before .before .before .before .before .before .before .before .before .before .before .before .before .before .before .before .before .meet .ensures .0) (c .before .before .before .before .before .before .before .before .before .before .before .before .before .before .before .before .before .before .before .before .before .before .before .before .before .before .before .before .before .before .before .before .before .before .before .before .before .before .meet .ensures .1 .0) in
@@ -227,37 +204,29 @@ list-folders-Inv-loop s view image known₀ folder-marks₀ file-marks₀ row₀
 abbrev list-folders-μ-loop : list-folders-lts.MeasureT-loop
 list-folders-μ-loop s view image known₀ folder-marks₀ file-marks₀ row₀ first depth met e₀ n₀ known folder-marks file-marks row e n = unvisited (s .folders) folder-marks
 
--- src/listing.rt:133:5
 list-folders-loop-holds : (t : ℕ) → list-folders-lts.Need-loop-holds (list-folders-callees t) (list-folders-at t) list-folders.Post list-folders-Inv-loop list-folders-μ-loop
 list-folders-loop-holds t c = (refl, refl, refl, refl, c .before .before .before .before .before .pre .1 .0 .knows, refl, omega arith, omega arith, λ base m q h. onward-start _ _ _ _ _ _ _ _ _ _ q h)
 
--- src/listing.rt:134:13
 list-folders-list-folder-requires : (t : ℕ) → list-folders-lts.Need-list-folder-requires (list-folders-callees t) (list-folders-at t) list-folders.Post list-folders-Inv-loop list-folders-μ-loop
 list-folders-list-folder-requires t c κs =
     let i = c .before .before .before .before .before .loop .inv in
     (omega (arith, c .before .before .before .before .before .before .before .before .before .before .before .pre .0, i .6), (record { rules = c .before .before .before .before .before .before .before .before .before .before .before .pre .1 .0 .rules; knows = i .4 }, ready-on (c .before .before .before .before .before .before .before .before .before .before .before .args .s) _ _ _ _ _ _ _ _ (c .before .before .before .before .before .before .before .before .before .before .before .pre .1 .1) (i .1) (i .2) (i .5)))
 
--- src/listing.rt:146:25
 list-folders-enum-known-below : (t : ℕ) → list-folders-lts.Need-enum-known-below (list-folders-callees t) (list-folders-at t) list-folders.Post list-folders-Inv-loop list-folders-μ-loop
 list-folders-enum-known-below t c = c .match .keys1
 
--- src/listing.rt:147:13
 list-folders-same-length : (t : ℕ) → list-folders-lts.Need-same-length (list-folders-callees t) (list-folders-at t) list-folders.Post list-folders-Inv-loop list-folders-μ-loop
 list-folders-same-length t c = c .before .before .before .before .before .before .before .before .before .list-folder .kept .1 .1 .1 .0 ∙ c .before .before .before .before .before .before .before .before .before .before .before .before .before .before .before .loop .inv .0
 
--- src/listing.rt:147:13
 list-folders-same-length-2 : (t : ℕ) → list-folders-lts.Need-same-length-2 (list-folders-callees t) (list-folders-at t) list-folders.Post list-folders-Inv-loop list-folders-μ-loop
 list-folders-same-length-2 t c = c .before .before .before .before .before .before .before .before .before .list-folder .kept .1 .1 .1 .1 .0 ∙ c .before .before .before .before .before .before .before .before .before .before .before .before .before .before .before .loop .inv .1
 
--- src/listing.rt:147:13
 list-folders-same-length-3 : (t : ℕ) → list-folders-lts.Need-same-length-3 (list-folders-callees t) (list-folders-at t) list-folders.Post list-folders-Inv-loop list-folders-μ-loop
 list-folders-same-length-3 t c = c .before .before .before .before .before .before .before .before .before .list-folder .kept .1 .1 .1 .1 .1 .0 ∙ c .before .before .before .before .before .before .before .before .before .before .before .before .before .before .before .loop .inv .2
 
--- src/listing.rt:147:13
 list-folders-same-length-4 : (t : ℕ) → list-folders-lts.Need-same-length-4 (list-folders-callees t) (list-folders-at t) list-folders.Post list-folders-Inv-loop list-folders-μ-loop
 list-folders-same-length-4 t c = c .before .before .before .before .before .before .before .before .before .list-folder .kept .1 .1 .1 .1 .1 .1 .0 ∙ c .before .before .before .before .before .before .before .before .before .before .before .before .before .before .before .loop .inv .3
 
--- src/listing.rt:147:13
 list-folders-returns : (t : ℕ) → list-folders-lts.Need-returns (list-folders-callees t) (list-folders-at t) list-folders.Post list-folders-Inv-loop list-folders-μ-loop
 list-folders-returns t c =
     let a = c .before .before .before .before .before .before .before .before .before .before .before .before .before .before .before .before .before .before .before .before .before .args in
@@ -270,19 +239,16 @@ list-folders-returns t c =
       (stops-goes (c .before .before .before .before .before .before .before .before .before .list-folder .result) _ _ _ _ _ stop, c .before .before .before .before .before .before .before .before .before .list-folder .ensures .1 .1 .1),
     )
 
--- src/listing.rt:150:9
 list-folders-field-of-requires : (t : ℕ) → list-folders-lts.Need-field-of-requires (list-folders-callees t) (list-folders-at t) list-folders.Post list-folders-Inv-loop list-folders-μ-loop
 list-folders-field-of-requires t c κs =
     let f = fewer-met (c .before .before .before .before .before .before .before .before .before .before .before .list-folder .result) (c .before .before .before .before .before .before .before .before .before .before .before .before .before .before .before .before .before .before .before .before .before .before .before .args .s .folders) _ (c .before .before .before .before .before .before .before .before .before .before .before .before .before .before .before .before .before .loop .e) _ _ (c .before .below .given .1) (c .before .before .before .before .before .before .before .before .before .before .before .list-folder .ensures .1 .1 .0) in
     (c .before .before .before .before .before .before .before .before .before .before .before .before .before .before .before .before .before .before .before .before .before .before .before .pre .1 .0 .rules, omega (arith, c .before .before .before .before .before .before .before .before .before .before .before .before .before .before .before .before .before .before .before .before .before .before .before .pre .1 .1 .folders, c .before .before .before .before .before .before .before .before .before .before .before .before .before .before .before .before .before .before .before .before .before .before .before .pre .1 .1 .folder, place-ends (c .before .before .before .before .before .before .before .before .before .before .before .before .before .before .before .before .before .before .before .before .before .before .before .args .s .folders) (c .before .before .before .before .before .before .before .before .before .before .before .before .before .before .before .before .before .loop .e) (f .1)))
 
--- src/listing.rt:133:5
 list-folders-loop-less : (t : ℕ) → list-folders-lts.Need-loop-less (list-folders-callees t) (list-folders-at t) list-folders.Post list-folders-Inv-loop list-folders-μ-loop
 list-folders-loop-less t c =
     let f = fewer-met (c .before .before .before .before .before .before .before .before .before .before .before .before .list-folder .result) (c .before .before .before .before .before .before .before .before .before .before .before .before .before .before .before .before .before .before .before .before .before .before .before .before .args .s .folders) _ (c .before .before .before .before .before .before .before .before .before .before .before .before .before .before .before .before .before .before .loop .e) _ _ (c .before .before .below .given .1) (c .before .before .before .before .before .before .before .before .before .before .before .before .list-folder .ensures .1 .1 .0) in
     omega (arith, f .0)
 
--- src/listing.rt:133:5
 list-folders-loop-again : (t : ℕ) → list-folders-lts.Need-loop-again (list-folders-callees t) (list-folders-at t) list-folders.Post list-folders-Inv-loop list-folders-μ-loop
 list-folders-loop-again t c =
     let a = c .before .before .before .before .before .before .before .before .before .before .before .before .before .before .before .before .before .before .before .before .before .before .before .before .args in
@@ -302,23 +268,18 @@ list-folders-loop-again t c =
           (walks-met (a .s) (versionOf (a .view) (a .image .now) .bytes) base _ (c .before .before .before .before .before .before .before .before .before .before .before .before .list-folder .result) _ _ _ _ (c .before .before .below .given .1) (c .before .before .before .before .before .before .before .before .before .before .before .before .list-folder .ensures .0 base (o .names) (o .count) (o .holds))),
     )
 
--- src/listing.rt:114:1
 list-folders-same-length-5 : (t : ℕ) → list-folders-lts.Need-same-length-5 (list-folders-callees t) (list-folders-at t) list-folders.Post list-folders-Inv-loop list-folders-μ-loop
 list-folders-same-length-5 t c = c .before .loop .inv .0
 
--- src/listing.rt:114:1
 list-folders-same-length-6 : (t : ℕ) → list-folders-lts.Need-same-length-6 (list-folders-callees t) (list-folders-at t) list-folders.Post list-folders-Inv-loop list-folders-μ-loop
 list-folders-same-length-6 t c = c .before .loop .inv .1
 
--- src/listing.rt:114:1
 list-folders-same-length-7 : (t : ℕ) → list-folders-lts.Need-same-length-7 (list-folders-callees t) (list-folders-at t) list-folders.Post list-folders-Inv-loop list-folders-μ-loop
 list-folders-same-length-7 t c = c .before .loop .inv .2
 
--- src/listing.rt:114:1
 list-folders-same-length-8 : (t : ℕ) → list-folders-lts.Need-same-length-8 (list-folders-callees t) (list-folders-at t) list-folders.Post list-folders-Inv-loop list-folders-μ-loop
 list-folders-same-length-8 t c = c .before .loop .inv .3
 
--- src/listing.rt:114:1
 list-folders-returns-2 : (t : ℕ) → list-folders-lts.Need-returns-2 (list-folders-callees t) (list-folders-at t) list-folders.Post list-folders-Inv-loop list-folders-μ-loop
 list-folders-returns-2 t c =
     let a = c .before .before .before .before .before .before .before .args in

@@ -1,5 +1,6 @@
+-- `walks::listing::list_files` meets its contract. Assumes nothing.
 use Prim.Native.Nat.{ℕ, _+_, _≤_}
-use mathlib.Core.Path.{_≡_, refl, sym, ap, _∙_}
+use mathlib.Core.Path.{_≡_, refl, sym, _∙_}
 use mathlib.Core.List.{List}
 use native.Mathlib.Omega.{arith}
 use lib.ListN.{length}
@@ -11,10 +12,6 @@ use Rattle.names.proofs.WalkLaws.{Onward, onward-start, stops, stops-goes, gain
 use Rattle.entries.specs.Known.{Knows}
 use Rattle.walks.proofs.listing.list_files.Statement.{statement}
 use Rattle.walks.proofs.listing.list_files.Tie as tie
-use Rattle.walks.proofs.listing.list_files.Reads as reads
-use Rattle.walks.proofs.listing.list_files.Lts as lts
-use Rattle.entries.proofs.meeting.field_of.Reads as field-of-reads
-use Rattle.entries.proofs.meeting.meet.Reads as meet-reads
 
 abbrev Inv-loop : tie.InvT-loop
 Inv-loop s view image known₀ folder-marks file-marks₀ row₀ first met f₀ n₀ known file-marks row f n =
@@ -26,32 +23,25 @@ Inv-loop s view image known₀ folder-marks file-marks₀ row₀ first met f₀ 
 abbrev μ-loop : tie.MeasureT-loop
 μ-loop s view image known₀ folder-marks file-marks₀ row₀ first met f₀ n₀ known file-marks row f n = unvisited (s .files) file-marks
 
--- src/listing.rt:38:5
 loop-holds : tie.Need-loop-holds Inv-loop μ-loop
 loop-holds c = (refl, refl, refl, c .before .before .before .before .before .pre .0 .knows, refl, omega arith, λ base m e h. onward-start _ _ _ _ _ _ _ _ _ _ e h)
 
--- src/listing.rt:39:13
 meet-requires : tie.Need-meet-requires Inv-loop μ-loop
 meet-requires c κs =
     (record { rules = c .before .before .before .before .before .before .before .before .before .before .pre .0 .rules; knows = c .before .before .before .before .loop .inv .3 }, omega (arith, c .before .before .before .before .before .before .before .before .before .before .pre .1 .file), c .before .before .before .before .before .before .before .before .before .before .pre .1 .files, omega (arith, c .before .before .before .before .before .before .before .before .before .before .pre .1 .fileRoom, c .before .before .before .before .loop .inv .1), omega (arith, c .before .before .before .before .before .before .before .before .before .before .pre .1 .count, c .before .before .before .before .loop .inv .4))
 
--- src/listing.rt:40:25
 enum-known-step : tie.Need-enum-known-step Inv-loop μ-loop
 enum-known-step c = c .match .keys1
 
--- src/listing.rt:41:13
 same-length : tie.Need-same-length Inv-loop μ-loop
 same-length c = c .before .before .before .before .before .before .before .meet .kept .1 .1 .0 ∙ c .before .before .before .before .before .before .before .before .before .before .before .before .loop .inv .0
 
--- src/listing.rt:41:13
 same-length-2 : tie.Need-same-length-2 Inv-loop μ-loop
 same-length-2 c = c .before .before .before .before .before .before .before .meet .kept .1 .1 .1 .1 .1 .0 ∙ c .before .before .before .before .before .before .before .before .before .before .before .before .loop .inv .1
 
--- src/listing.rt:41:13
 same-length-3 : tie.Need-same-length-3 Inv-loop μ-loop
 same-length-3 c = c .before .before .before .before .before .before .before .meet .kept .1 .1 .1 .1 .1 .1 .0 ∙ c .before .before .before .before .before .before .before .before .before .before .before .before .loop .inv .2
 
--- src/listing.rt:41:13
 returns : tie.Need-returns Inv-loop μ-loop
 returns c =
     let stop = stops (c .before .before .before .before .before .before .before .meet .result) (c .match .keys2) in (
@@ -59,19 +49,16 @@ returns c =
       (stops-goes (c .before .before .before .before .before .before .before .meet .result) _ _ _ _ _ stop, c .before .before .before .before .before .before .before .meet .ensures .1 .1),
     )
 
--- src/listing.rt:44:9
 field-of-requires : tie.Need-field-of-requires Inv-loop μ-loop
 field-of-requires c κs =
     let g = gained _ _ _ _ _ _ _ _ _ _ _ _ _ (c .before .before .before .before .before .before .before .before .before .before .before .before .before .before .before .before .before .before .before .before .pre .1 .logs) (sym (c .before .step .given .1) ∙ c .before .before .before .before .before .before .before .before .before .meet .ensures .0) (c .before .before .before .before .before .before .before .before .before .meet .ensures .1 .0) in
     (c .before .before .before .before .before .before .before .before .before .before .before .before .before .before .before .before .before .before .before .before .pre .0 .rules, omega (arith, c .before .before .before .before .before .before .before .before .before .before .before .before .before .before .before .before .before .before .before .before .pre .1 .files, c .before .before .before .before .before .before .before .before .before .before .before .before .before .before .before .before .before .before .before .before .pre .1 .file, place-ends (c .before .before .before .before .before .before .before .before .before .before .before .before .before .before .before .before .before .before .before .before .args .s .files) (c .before .before .before .before .before .before .before .before .before .before .before .before .before .before .loop .f) (g .inside)))
 
--- src/listing.rt:38:5
 loop-less : tie.Need-loop-less Inv-loop μ-loop
 loop-less c =
     let g = gained _ _ _ _ _ _ _ _ _ _ _ _ _ (c .before .before .before .before .before .before .before .before .before .before .before .before .before .before .before .before .before .before .before .before .before .pre .1 .logs) (sym (c .before .before .step .given .1) ∙ c .before .before .before .before .before .before .before .before .before .before .meet .ensures .0) (c .before .before .before .before .before .before .before .before .before .before .meet .ensures .1 .0) in
     omega (arith, g .fewer)
 
--- src/listing.rt:38:5
 loop-again : tie.Need-loop-again Inv-loop μ-loop
 loop-again c =
     let g = gained _ _ _ _ _ _ _ _ _ _ _ _ _ (c .before .before .before .before .before .before .before .before .before .before .before .before .before .before .before .before .before .before .before .before .before .pre .1 .logs) (sym (c .before .before .step .given .1) ∙ c .before .before .before .before .before .before .before .before .before .before .meet .ensures .0) (c .before .before .before .before .before .before .before .before .before .before .meet .ensures .1 .0) in (
@@ -84,19 +71,15 @@ loop-again c =
       λ base m e h. file-goes (c .before .before .before .before .before .before .before .before .before .before .before .before .before .before .before .before .before .before .before .before .before .args .s) (versionOf (c .before .before .before .before .before .before .before .before .before .before .before .before .before .before .before .before .before .before .before .before .before .args .view) (c .before .before .before .before .before .before .before .before .before .before .before .before .before .before .before .before .before .before .before .before .before .args .image .now) .bytes) (versionOf (c .before .before .before .before .before .before .before .before .before .before .before .before .before .before .before .before .before .before .before .before .before .args .view) (c .before .before .before .before .before .before .before .before .before .before .before .before .before .before .before .before .before .before .before .before .before .args .image .now) .verified) base (c .before .before .before .before .before .before .before .before .before .before .before .before .before .before .before .before .before .before .before .before .before .args .folder-marks .now) (c .before .before .before .before .before .before .before .before .before .before .before .before .before .before .before .loop .file-marks) (c .before .before .before .before .before .before .before .before .before .before .before .before .before .before .before .loop .row) (c .before .before .before .before .before .before .before .before .before .before .before .before .before .before .before .before .before .before .before .before .before .args .first) (c .before .before .before .before .before .before .before .before .before .before .before .before .before .before .before .loop .f) (c .before .before .before .before .before .before .before .before .before .before .before .before .before .before .before .loop .n) _ _ m _ _ (c .before .before .before .before .before .before .before .before .before .before .before .before .before .before .loop-test .taken) (c .field-of .ensures) g (c .before .before .before .before .before .before .before .before .before .before .before .before .before .before .before .loop .inv .6 base m e h),
     )
 
--- src/listing.rt:20:1
 same-length-4 : tie.Need-same-length-4 Inv-loop μ-loop
 same-length-4 c = c .before .loop .inv .0
 
--- src/listing.rt:20:1
 same-length-5 : tie.Need-same-length-5 Inv-loop μ-loop
 same-length-5 c = c .before .loop .inv .1
 
--- src/listing.rt:20:1
 same-length-6 : tie.Need-same-length-6 Inv-loop μ-loop
 same-length-6 c = c .before .loop .inv .2
 
--- src/listing.rt:20:1
 returns-2 : tie.Need-returns-2 Inv-loop μ-loop
 returns-2 c = (
   λ base m e h. file-ends (c .before .before .before .before .before .before .before .args .s) (versionOf (c .before .before .before .before .before .before .before .args .view) (c .before .before .before .before .before .before .before .args .image .now) .bytes) (versionOf (c .before .before .before .before .before .before .before .args .view) (c .before .before .before .before .before .before .before .args .image .now) .verified) base (c .before .before .before .before .before .before .before .args .folder-marks .now) (c .before .loop .file-marks) (c .before .loop .row) (c .before .before .before .before .before .before .before .args .first) (c .before .loop .f) (c .before .loop .n) m (c .loop-test .left) (c .before .loop .inv .6 base m e h),

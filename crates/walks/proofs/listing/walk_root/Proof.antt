@@ -1,3 +1,4 @@
+-- `walks::listing::walk_root` meets its contract. Assumes nothing.
 use mathlib.Core.Path.{refl}
 use mathlib.Core.List.{[]}
 use Rattle.views.specs.Versions.{versionOf}
@@ -5,31 +6,22 @@ use Rattle.names.proofs.WalkLaws.{ready-root, holds-root, root-listed}
 use borrow.Author.Needs.{needs}
 use Rattle.walks.proofs.listing.walk_root.Statement.{statement}
 use Rattle.walks.proofs.listing.walk_root.Tie as tie
-use Rattle.walks.proofs.listing.walk_root.Reads as reads
-use Rattle.walks.proofs.listing.walk_root.Lts as lts
-use Rattle.walks.proofs.listing.list_folder.Reads as list-folder-reads
 
--- src/listing.rt:169:9
 slice-aggregate-list-folder : tie.Need-slice-aggregate-list-folder
 slice-aggregate-list-folder c = search needs
 
--- src/listing.rt:170:9
 slice-aggregate-list-folder-2 : tie.Need-slice-aggregate-list-folder-2
 slice-aggregate-list-folder-2 c = search needs
 
--- src/listing.rt:164:5
 list-folder-requires : tie.Need-list-folder-requires
 list-folder-requires c κs = (c .before .before .before .before .before .before .before .pre .0, ready-root (c .before .before .before .before .before .before .before .args .s) _ _ 104858 87382 (c .before .before .before .before .before .before .before .pre .1) refl refl)
 
--- src/listing.rt:156:1
 same-length : tie.Need-same-length
 same-length c = search needs
 
--- src/listing.rt:156:1
 same-length-2 : tie.Need-same-length-2
 same-length-2 c = search needs
 
--- src/listing.rt:156:1
 returns : tie.Need-returns
 returns c =
     let r = root-listed (c .before .before .before .before .before .before .before .before .before .before .before .before .before .before .args .s) (versionOf (c .before .before .before .before .before .before .before .before .before .before .before .before .before .before .args .view) (c .before .before .before .before .before .before .before .before .before .before .before .before .before .before .args .image .now) .bytes) (versionOf (c .before .before .before .before .before .before .before .before .before .before .before .before .before .before .args .view) (c .before .before .before .before .before .before .before .before .before .before .before .before .before .before .args .image .now) .verified) (c .before .before .before .before .before .before .before .before .before .before .before .before .before .before .args .row .now) _ _ _ _ (c .before .before .before .before .before .before .list-folder .ensures .0 (c .before .before .before .before .before .before .before .before .before .before .before .before .before .before .args .row .now) [] refl (holds-root (c .before .before .before .before .before .before .before .before .before .before .before .before .before .before .args .s) (versionOf (c .before .before .before .before .before .before .before .before .before .before .before .before .before .before .args .view) (c .before .before .before .before .before .before .before .before .before .before .before .before .before .before .args .image .now) .bytes) (c .before .before .before .before .before .before .before .before .before .before .before .before .before .before .args .row .now) 104858 87382)) in

@@ -1,5 +1,5 @@
-use mathlib.Core.Path.{_≡_, refl, sym, ap, _∙_}
-use mathlib.Core.List.{List}
+-- `walks::opening::judge_header` meets its contract. Assumes nothing.
+use mathlib.Core.Path.{sym, _∙_}
 use native.Mathlib.Omega.{arith}
 use Rattle.views.specs.Versions.{versionOf}
 use Rattle.names.proofs.OpenLaws.{entries-ask, judged-yes, judged-no}
@@ -7,53 +7,37 @@ use Rattle.entries.proofs.ReadLaws.{level4-is, length-level4, header-is}
 use borrow.Author.Needs.{needs}
 use Rattle.walks.proofs.opening.judge_header.Statement.{statement}
 use Rattle.walks.proofs.opening.judge_header.Tie as tie
-use Rattle.walks.proofs.opening.judge_header.Reads as reads
-use Rattle.walks.proofs.opening.judge_header.Lts as lts
-use Rattle.ivfc.proofs.gathering.gather.Reads as gather-reads
-use Rattle.names.proofs.header.well_formed.Reads as well-formed-reads
-use Rattle.walks.proofs.opening.read_entries.Reads as read-entries-reads
-use Rattle.walks.proofs.opening.save_of.Reads as save-of-reads
 
--- src/opening.rt:94:31
 slice-aggregate-gather : tie.Need-slice-aggregate-gather
 slice-aggregate-gather c = search needs
 
--- src/opening.rt:94:5
 gather-requires : tie.Need-gather-requires
 gather-requires c κs = (c .before .before .before .pre .0 .rules, omega arith, rw (level4-is (c .before .before .before .args .view)) (c .before .before .before .pre .1))
 
--- src/opening.rt:95:20
 slice-aggregate-well-formed : tie.Need-slice-aggregate-well-formed
 slice-aggregate-well-formed c = search needs
 
--- src/opening.rt:95:8
 well-formed-requires : tie.Need-well-formed-requires
 well-formed-requires c κs = search needs
 
--- src/opening.rt:96:43
 slice-aggregate-save-of : tie.Need-slice-aggregate-save-of
 slice-aggregate-save-of c = search needs
 
--- src/opening.rt:96:22
 save-of-requires : tie.Need-save-of-requires
 save-of-requires c κs = (c .before .before .before .before .before .before .before .before .before .pre .0 .rules, sym (c .before .before .well-formed .ensures) ∙ c .before .if1 .taken)
 
--- src/opening.rt:96:9
 read-entries-requires : tie.Need-read-entries-requires
 read-entries-requires c κs =
     let a = entries-ask _ (versionOf (c .before .before .before .before .before .before .before .before .before .before .before .args .view) (c .before .before .before .before .before .before .before .before .before .before .before .args .image .now) .bytes) (c .before .before .before .before .before .before .before .before .before .before .before .args .view .level4 .log) (c .before .before .before .before .before .before .before .before .before .before .before .args .view .level4 .size) _ (c .before .save-of .ensures) (sym (c .before .before .before .before .well-formed .ensures) ∙ c .before .before .before .if1 .taken) in
     (c .before .before .before .before .before .before .before .before .before .before .before .pre .0, a .0, a .1, a .2)
 
--- src/opening.rt:89:1
 same-length : tie.Need-same-length
 same-length c = search needs
 
--- src/opening.rt:89:1
 returns : tie.Need-returns
 returns c =
     (c .before .before .read-entries .ensures .0 ∙ judged-yes (versionOf (c .before .before .before .before .before .before .before .before .before .before .before .before .before .before .args .view) (c .before .before .before .before .before .before .before .before .before .before .before .before .before .before .args .image .now) .bytes) (versionOf (c .before .before .before .before .before .before .before .before .before .before .before .before .before .before .args .view) (c .before .before .before .before .before .before .before .before .before .before .before .before .before .before .args .image .now) .verified) (c .before .before .before .before .before .before .before .before .before .before .before .before .before .before .args .view .level4 .log) (c .before .before .before .before .before .before .before .before .before .before .before .before .before .before .args .view .level4 .size) (length-level4 (c .before .before .before .before .before .before .before .before .before .before .before .before .before .before .args .view) (c .before .before .before .before .before .before .before .before .before .before .before .before .before .before .args .image .now)) _ _ _ (c .before .before .before .before .before .before .before .before .before .before .gather .ensures ∙ header-is (c .before .before .before .before .before .before .before .before .before .before .before .before .before .before .args .view) (c .before .before .before .before .before .before .before .before .before .before .before .before .before .before .args .image .now) (c .before .before .before .before .before .before .before .before .before .before .before .before .before .before .pre .1)) (c .before .before .before .before .before .before .before .well-formed .ensures) (c .before .before .before .before .before .before .if1 .taken) (c .before .before .before .before .save-of .ensures), c .before .before .read-entries .ensures .1)
 
--- src/opening.rt:89:1
 returns-2 : tie.Need-returns-2
 returns-2 c =
     (judged-no (versionOf (c .before .before .before .before .before .before .before .before .args .view) (c .before .before .before .before .before .before .before .before .args .image .now) .bytes) (versionOf (c .before .before .before .before .before .before .before .before .args .view) (c .before .before .before .before .before .before .before .before .args .image .now) .verified) (c .before .before .before .before .before .before .before .before .args .view .level4 .log) (c .before .before .before .before .before .before .before .before .args .view .level4 .size) (length-level4 (c .before .before .before .before .before .before .before .before .args .view) (c .before .before .before .before .before .before .before .before .args .image .now)) _ _ (c .before .before .before .before .gather .ensures ∙ header-is (c .before .before .before .before .before .before .before .before .args .view) (c .before .before .before .before .before .before .before .before .args .image .now) (c .before .before .before .before .before .before .before .before .pre .1)) (c .before .well-formed .ensures) (c .if1 .left), c .before .before .before .before .before .before .before .before .pre .0 .knows)

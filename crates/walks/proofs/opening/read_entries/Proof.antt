@@ -1,3 +1,4 @@
+-- `walks::opening::read_entries` meets its contract. Assumes nothing.
 use Prim.Native.Nat.{ℕ}
 use mathlib.Core.Path.{sym, ap, _∙_}
 use Rattle.views.specs.Versions.{versionOf}
@@ -6,79 +7,58 @@ use Rattle.names.proofs.OpenLaws.{then-at, then-invalid, then-unverified}
 use borrow.Author.Needs.{needs}
 use Rattle.walks.proofs.opening.read_entries.Statement.{statement}
 use Rattle.walks.proofs.opening.read_entries.Tie as tie
-use Rattle.walks.proofs.opening.read_entries.Reads as reads
-use Rattle.walks.proofs.opening.read_entries.Lts as lts
-use Rattle.entries.proofs.reading.read_at.Reads as read-at-reads
 
--- src/opening.rt:73:9
 read-at-requires : tie.Need-read-at-requires
 read-at-requires c κs = search needs
 
--- src/opening.rt:75:27
 enum-told : tie.Need-enum-told
 enum-told c = search needs
 
--- src/opening.rt:76:27
 enum-known-first : tie.Need-enum-known-first
 enum-known-first c = search needs
 
--- src/opening.rt:77:19
 enum-known-first-2 : tie.Need-enum-known-first-2
 enum-known-first-2 c = search needs
 
--- src/opening.rt:78:17
 read-at-requires-2 : tie.Need-read-at-requires-2
 read-at-requires-2 c κs = search needs
 
--- src/opening.rt:80:35
 enum-told-2 : tie.Need-enum-told-2
 enum-told-2 c = search needs
 
--- src/opening.rt:81:35
 enum-known-second : tie.Need-enum-known-second
 enum-known-second c = search needs
 
--- src/opening.rt:82:27
 enum-known-second-2 : tie.Need-enum-known-second-2
 enum-known-second-2 c = search needs
 
--- src/opening.rt:69:1
 same-length : tie.Need-same-length
 same-length c = search needs
 
--- src/opening.rt:69:1
 returns : tie.Need-returns
 returns c = (then-invalid _ _ (ap (λ (l : ℕ). readAt (versionOf (c .before .before .before .before .before .before .before .before .args .view) (c .before .before .before .before .before .before .before .before .args .image .now) .verified) l (c .before .before .before .before .before .before .before .before .args .s .folders .place) 0x28) (c .before .before .before .before .before .before .before .before .pre .1) ∙ sym (c .before .before .before .before .read-at .ensures .0) ∙ c .enum-told .given .1), c .before .before .before .before .read-at .ensures .1)
 
--- src/opening.rt:69:1
 same-length-2 : tie.Need-same-length-2
 same-length-2 c = search needs
 
--- src/opening.rt:69:1
 returns-2 : tie.Need-returns-2
 returns-2 c = (then-unverified _ _ _ (ap (λ (l : ℕ). readAt (versionOf (c .before .before .before .before .before .before .before .before .before .args .view) (c .before .before .before .before .before .before .before .before .before .args .image .now) .verified) l (c .before .before .before .before .before .before .before .before .before .args .s .folders .place) 0x28) (c .before .before .before .before .before .before .before .before .before .pre .1) ∙ sym (c .before .before .before .before .before .read-at .ensures .0) ∙ c .before .first .given .1), c .before .before .before .before .before .read-at .ensures .1)
 
--- src/opening.rt:69:1
 same-length-3 : tie.Need-same-length-3
 same-length-3 c = search needs
 
--- src/opening.rt:69:1
 returns-3 : tie.Need-returns-3
 returns-3 c = (then-invalid _ _ (ap (λ (l : ℕ). readAt (versionOf (c .before .before .before .before .before .before .before .before .before .before .before .before .before .before .before .args .view) (c .before .before .before .before .before .before .before .before .before .before .before .before .before .before .before .args .image .now) .verified) l (c .before .before .before .before .before .before .before .before .before .before .before .before .before .before .before .args .s .files .place) 0x30) (c .before .before .before .before .before .before .before .before .before .before .before .before .before .before .before .pre .1) ∙ sym (c .before .before .before .before .read-at2 .ensures .0) ∙ c .enum-told2 .given .1) ∙ then-at _ _ _ (ap (λ (l : ℕ). readAt (versionOf (c .before .before .before .before .before .before .before .before .before .before .before .before .before .before .before .args .view) (c .before .before .before .before .before .before .before .before .before .before .before .before .before .before .before .args .image .now) .verified) l (c .before .before .before .before .before .before .before .before .before .before .before .before .before .before .before .args .s .folders .place) 0x28) (c .before .before .before .before .before .before .before .before .before .before .before .before .before .before .before .pre .1) ∙ sym (c .before .before .before .before .before .before .before .before .before .before .before .read-at .ensures .0) ∙ c .before .before .before .before .before .before .before .first2 .given .1), c .before .before .before .before .read-at2 .ensures .1)
 
--- src/opening.rt:69:1
 same-length-4 : tie.Need-same-length-4
 same-length-4 c = search needs
 
--- src/opening.rt:69:1
 returns-4 : tie.Need-returns-4
 returns-4 c = (then-unverified _ _ _ (ap (λ (l : ℕ). readAt (versionOf (c .before .before .before .before .before .before .before .before .before .before .before .before .before .before .before .before .args .view) (c .before .before .before .before .before .before .before .before .before .before .before .before .before .before .before .before .args .image .now) .verified) l (c .before .before .before .before .before .before .before .before .before .before .before .before .before .before .before .before .args .s .files .place) 0x30) (c .before .before .before .before .before .before .before .before .before .before .before .before .before .before .before .before .pre .1) ∙ sym (c .before .before .before .before .before .read-at2 .ensures .0) ∙ c .before .second .given .1) ∙ then-at _ _ _ (ap (λ (l : ℕ). readAt (versionOf (c .before .before .before .before .before .before .before .before .before .before .before .before .before .before .before .before .args .view) (c .before .before .before .before .before .before .before .before .before .before .before .before .before .before .before .before .args .image .now) .verified) l (c .before .before .before .before .before .before .before .before .before .before .before .before .before .before .before .before .args .s .folders .place) 0x28) (c .before .before .before .before .before .before .before .before .before .before .before .before .before .before .before .before .pre .1) ∙ sym (c .before .before .before .before .before .before .before .before .before .before .before .before .read-at .ensures .0) ∙ c .before .before .before .before .before .before .before .before .first2 .given .1), c .before .before .before .before .before .read-at2 .ensures .1)
 
--- src/opening.rt:69:1
 same-length-5 : tie.Need-same-length-5
 same-length-5 c = search needs
 
--- src/opening.rt:69:1
 returns-5 : tie.Need-returns-5
 returns-5 c = (then-at _ _ _ (ap (λ (l : ℕ). readAt (versionOf (c .before .before .before .before .before .before .before .before .before .before .before .before .before .before .before .before .args .view) (c .before .before .before .before .before .before .before .before .before .before .before .before .before .before .before .before .args .image .now) .verified) l (c .before .before .before .before .before .before .before .before .before .before .before .before .before .before .before .before .args .s .files .place) 0x30) (c .before .before .before .before .before .before .before .before .before .before .before .before .before .before .before .before .pre .1) ∙ sym (c .before .before .before .before .before .read-at2 .ensures .0) ∙ c .before .second2 .given .1) ∙ then-at _ _ _ (ap (λ (l : ℕ). readAt (versionOf (c .before .before .before .before .before .before .before .before .before .before .before .before .before .before .before .before .args .view) (c .before .before .before .before .before .before .before .before .before .before .before .before .before .before .before .before .args .image .now) .verified) l (c .before .before .before .before .before .before .before .before .before .before .before .before .before .before .before .before .args .s .folders .place) 0x28) (c .before .before .before .before .before .before .before .before .before .before .before .before .before .before .before .before .pre .1) ∙ sym (c .before .before .before .before .before .before .before .before .before .before .before .before .read-at .ensures .0) ∙ c .before .before .before .before .before .before .before .before .first2 .given .1), c .before .before .before .before .before .read-at2 .ensures .1)
 

@@ -1,3 +1,4 @@
+-- `walks::opening::table_of` meets its contract. Assumes nothing.
 use native.Mathlib.Omega.{arith}
 use Rattle.views.specs.Versions.{versionOf}
 use Rattle.names.proofs.OpenLaws.{table-is}
@@ -5,20 +6,13 @@ use Rattle.entries.proofs.ReadLaws.{size-small}
 use borrow.Author.Needs.{needs}
 use Rattle.walks.proofs.opening.table_of.Statement.{statement}
 use Rattle.walks.proofs.opening.table_of.Tie as tie
-use Rattle.walks.proofs.opening.table_of.Reads as reads
-use Rattle.walks.proofs.opening.table_of.Lts as lts
-use Rattle.entries.proofs.reading.word_at.Reads as word-at-reads
-use Rattle.names.proofs.header.table_place.Reads as table-place-reads
 
--- src/opening.rt:29:9
 table-place-requires : tie.Need-table-place-requires
 table-place-requires c κs = (c .before .before .pre .1, omega (arith, c .before .before .pre .2, size-small (c .before .before .args .view) _ (c .before .before .pre .0)))
 
--- src/opening.rt:33:16
 word-at-requires : tie.Need-word-at-requires
 word-at-requires c κs = search needs
 
--- src/opening.rt:25:1
 returns : tie.Need-returns
 returns c = table-is (c .before .before .before .before .args .header .now) (versionOf (c .before .before .before .before .args .view) (c .before .before .before .before .args .image .now) .bytes) (c .before .before .before .before .args .field) (c .before .before .before .before .args .size) (c .before .before .before .before .args .max) _ _ (c .before .table-place .ensures) (c .word-at .ensures)
 

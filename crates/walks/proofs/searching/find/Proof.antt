@@ -1,3 +1,4 @@
+-- `walks::searching::find` meets its contract. Assumes nothing.
 use Prim.Native.Nat.{ℕ, _+_, _*_}
 use mathlib.Core.Path.{sym, ap, _∙_}
 use native.Mathlib.Omega.{arith}
@@ -11,70 +12,49 @@ use Rattle.entries.proofs.ReadLaws.{size-small}
 use borrow.Author.Needs.{needs}
 use Rattle.walks.proofs.searching.find.Statement.{statement}
 use Rattle.walks.proofs.searching.find.Tie as tie
-use Rattle.walks.proofs.searching.find.Reads as reads
-use Rattle.walks.proofs.searching.find.Lts as lts
-use Rattle.entries.proofs.reading.read_at.Reads as read-at-reads
-use Rattle.entries.proofs.reading.word_at.Reads as word-at-reads
-use Rattle.names.proofs.hashing.bucket_of.Reads as bucket-of-reads
-use Rattle.walks.proofs.searching.search_chain.Reads as search-chain-reads
 
--- src/searching.rt:108:27
 bucket-of-requires : tie.Need-bucket-of-requires
 bucket-of-requires c κs = search needs
 
--- src/searching.rt:108:23
 mul-at : tie.Need-mul-at
 mul-at c = omega (arith, c .before .before .before .before .pre .3, c .bucket-of .ensures .1, size-small (c .before .before .before .before .args .view) _ (c .before .before .before .before .pre .0 .rules))
 
--- src/searching.rt:108:14
 add-at : tie.Need-add-at
 add-at c = omega (arith, c .before .before .before .before .before .pre .3, c .before .bucket-of .ensures .1, size-small (c .before .before .before .before .before .args .view) _ (c .before .before .before .before .before .pre .0 .rules))
 
--- src/searching.rt:109:9
 read-at-requires : tie.Need-read-at-requires
 read-at-requires c κs = search needs
 
--- src/searching.rt:111:27
 enum-told : tie.Need-enum-told
 enum-told c = search needs
 
--- src/searching.rt:112:27
 enum-known-word : tie.Need-enum-known-word
 enum-known-word c = search needs
 
--- src/searching.rt:113:19
 enum-known-word-2 : tie.Need-enum-known-word-2
 enum-known-word-2 c = search needs
 
--- src/searching.rt:118:13
 word-at-requires : tie.Need-word-at-requires
 word-at-requires c κs = search needs
 
--- src/searching.rt:113:29
 search-chain-requires : tie.Need-search-chain-requires
 search-chain-requires c κs = search needs
 
--- src/searching.rt:97:1
 same-length : tie.Need-same-length
 same-length c = search needs
 
--- src/searching.rt:97:1
 returns : tie.Need-returns
 returns c = found-is (c .before .before .before .before .before .before .before .before .before .before .before .args .s) (versionOf (c .before .before .before .before .before .before .before .before .before .before .before .args .view) (c .before .before .before .before .before .before .before .before .before .before .before .args .image .now) .bytes) (versionOf (c .before .before .before .before .before .before .before .before .before .before .before .args .view) (c .before .before .before .before .before .before .before .before .before .before .before .args .image .now) .verified) (c .before .before .before .before .before .before .before .before .before .before .before .args .parent) (c .before .before .before .before .before .before .before .before .before .before .before .args .name .now) _ _ _ (c .before .before .before .before .before .before .before .bucket-of .ensures .0) (c .before .before .before .before .read-at .ensures .0 ∙ ap (λ (l : ℕ). readAt (versionOf (c .before .before .before .before .before .before .before .before .before .before .before .args .view) (c .before .before .before .before .before .before .before .before .before .before .before .args .image .now) .verified) l (c .before .before .before .before .before .before .before .before .before .before .before .args .s .hash + 4 * c .before .before .before .before .before .before .before .bucket-of .result) 4) (sym (c .before .before .before .before .before .before .before .before .before .before .before .pre .1 .logs))) (c .enum-told .given .1)
 
--- src/searching.rt:97:1
 same-length-2 : tie.Need-same-length-2
 same-length-2 c = search needs
 
--- src/searching.rt:97:1
 returns-2 : tie.Need-returns-2
 returns-2 c = found-is (c .before .before .before .before .before .before .before .before .before .before .before .before .args .s) (versionOf (c .before .before .before .before .before .before .before .before .before .before .before .before .args .view) (c .before .before .before .before .before .before .before .before .before .before .before .before .args .image .now) .bytes) (versionOf (c .before .before .before .before .before .before .before .before .before .before .before .before .args .view) (c .before .before .before .before .before .before .before .before .before .before .before .before .args .image .now) .verified) (c .before .before .before .before .before .before .before .before .before .before .before .before .args .parent) (c .before .before .before .before .before .before .before .before .before .before .before .before .args .name .now) _ _ _ (c .before .before .before .before .before .before .before .before .bucket-of .ensures .0) (c .before .before .before .before .before .read-at .ensures .0 ∙ ap (λ (l : ℕ). readAt (versionOf (c .before .before .before .before .before .before .before .before .before .before .before .before .args .view) (c .before .before .before .before .before .before .before .before .before .before .before .before .args .image .now) .verified) l (c .before .before .before .before .before .before .before .before .before .before .before .before .args .s .hash + 4 * c .before .before .before .before .before .before .before .before .bucket-of .result) 4) (sym (c .before .before .before .before .before .before .before .before .before .before .before .before .pre .1 .logs))) (c .before .word .given .1)
 
--- src/searching.rt:97:1
 same-length-3 : tie.Need-same-length-3
 same-length-3 c = search needs
 
--- src/searching.rt:97:1
 returns-3 : tie.Need-returns-3
 returns-3 c =
     c .before .before .search-chain .ensures

@@ -1,3 +1,4 @@
+-- `walks::searching::follow` meets its contract. Assumes nothing.
 use Prim.Native.Nat.{ℕ}
 use mathlib.Core.Bool.{true, false}
 use mathlib.Core.Path.{sym, ap, _∙_}
@@ -10,80 +11,64 @@ use Rattle.names.proofs.EntryLaws.{admit-at, place-ends}
 use borrow.Author.Needs.{needs}
 use Rattle.walks.proofs.searching.follow.Statement.{statement}
 use Rattle.walks.proofs.searching.follow.Tie as tie
-use Rattle.walks.proofs.searching.follow.Reads as reads
-use Rattle.walks.proofs.searching.follow.Lts as lts
-use Rattle.entries.proofs.meeting.field_of.Reads as field-of-reads
-use Rattle.entries.proofs.meeting.reach.Reads as reach-reads
-use Rattle.walks.proofs.searching.is_named.Reads as is-named-reads
 
--- src/searching.rt:50:9
 returns : tie.Need-returns
 returns c = (link-zero (c .before .before .before .before .args .s) (versionOf (c .before .before .before .before .args .view) (c .before .before .before .before .args .image .now) .bytes) (versionOf (c .before .before .before .before .args .view) (c .before .before .before .before .args .image .now) .verified) (c .before .before .before .before .args .parent) (c .before .before .before .before .args .name .now) (c .before .before .before .before .args .f) (c .if1 .taken), c .before .before .before .before .pre .0 .knows)
 
--- src/searching.rt:52:9
 reach-requires : tie.Need-reach-requires
 reach-requires c κs = search needs
 
--- src/searching.rt:54:38
 enum-told : tie.Need-enum-told
 enum-told c = search needs
 
--- src/searching.rt:55:27
 enum-known-entry : tie.Need-enum-known-entry
 enum-known-entry c = search needs
 
--- src/searching.rt:56:19
 enum-known-entry-2 : tie.Need-enum-known-entry-2
 enum-known-entry-2 c = search needs
 
--- src/searching.rt:57:16
 is-named-requires : tie.Need-is-named-requires
 is-named-requires c κs =
     let q = admit-at (versionOf (c .before .before .before .before .before .before .before .before .before .before .before .args .view) (c .before .before .before .before .before .before .before .before .before .before .before .args .image .now) .verified) (c .before .before .before .before .before .before .before .before .before .before .before .args .view .level4 .log) (c .before .before .before .before .before .before .before .before .before .before .before .args .s .files) false (c .before .before .before .before .before .before .before .before .before .before .before .args .f) _ (sym (c .before .before .before .before .before .reach .ensures .0) ∙ c .before .entry2 .given .1) in
     (c .before .before .before .before .before .before .before .before .before .before .before .pre .0 .rules, q .2, omega (arith, q .2, c .before .before .before .before .before .before .before .before .before .before .before .pre .1 .files, c .before .before .before .before .before .before .before .before .before .before .before .pre .1 .file, place-ends (c .before .before .before .before .before .before .before .before .before .before .before .args .s .files) (c .before .before .before .before .before .before .before .before .before .before .before .args .f) (q .1)))
 
--- src/searching.rt:60:28
 field-of-requires : tie.Need-field-of-requires
 field-of-requires c κs =
     let q = admit-at (versionOf (c .before .before .before .before .before .before .before .before .before .before .before .before .before .args .view) (c .before .before .before .before .before .before .before .before .before .before .before .before .before .args .image .now) .verified) (c .before .before .before .before .before .before .before .before .before .before .before .before .before .args .view .level4 .log) (c .before .before .before .before .before .before .before .before .before .before .before .before .before .args .s .files) false (c .before .before .before .before .before .before .before .before .before .before .before .before .before .args .f) _ (sym (c .before .before .before .before .before .before .before .reach .ensures .0) ∙ c .before .before .before .entry2 .given .1) in
     (c .before .before .before .before .before .before .before .before .before .before .before .before .before .pre .0 .rules, omega (arith, c .before .before .before .before .before .before .before .before .before .before .before .before .before .pre .1 .files, c .before .before .before .before .before .before .before .before .before .before .before .before .before .pre .1 .file, place-ends (c .before .before .before .before .before .before .before .before .before .before .before .before .before .args .s .files) (c .before .before .before .before .before .before .before .before .before .before .before .before .before .args .f) (q .1)))
 
--- src/searching.rt:37:1
 same-length : tie.Need-same-length
 same-length c = search needs
 
--- src/searching.rt:37:1
 returns-2 : tie.Need-returns-2
 returns-2 c = (link-is (c .before .before .before .before .before .before .before .before .before .before .args .s) (versionOf (c .before .before .before .before .before .before .before .before .before .before .args .view) (c .before .before .before .before .before .before .before .before .before .before .args .image .now) .bytes) (versionOf (c .before .before .before .before .before .before .before .before .before .before .args .view) (c .before .before .before .before .before .before .before .before .before .before .args .image .now) .verified) (c .before .before .before .before .before .before .before .before .before .before .args .parent) (c .before .before .before .before .before .before .before .before .before .before .args .name .now) (c .before .before .before .before .before .before .before .before .before .before .args .f) (c .before .before .before .before .before .before .if1 .left) _ (ap (λ (l : ℕ). admit (versionOf (c .before .before .before .before .before .before .before .before .before .before .args .view) (c .before .before .before .before .before .before .before .before .before .before .args .image .now) .verified) l (c .before .before .before .before .before .before .before .before .before .before .args .s .files) false (c .before .before .before .before .before .before .before .before .before .before .args .f)) (c .before .before .before .before .before .before .before .before .before .before .pre .1 .logs) ∙ sym (c .before .before .before .before .reach .ensures .0) ∙ c .enum-told .given .1), c .before .before .before .before .reach .ensures .1)
 
--- src/searching.rt:37:1
 same-length-2 : tie.Need-same-length-2
 same-length-2 c = search needs
 
--- src/searching.rt:37:1
 returns-3 : tie.Need-returns-3
 returns-3 c = (link-is (c .before .before .before .before .before .before .before .before .before .before .before .args .s) (versionOf (c .before .before .before .before .before .before .before .before .before .before .before .args .view) (c .before .before .before .before .before .before .before .before .before .before .before .args .image .now) .bytes) (versionOf (c .before .before .before .before .before .before .before .before .before .before .before .args .view) (c .before .before .before .before .before .before .before .before .before .before .before .args .image .now) .verified) (c .before .before .before .before .before .before .before .before .before .before .before .args .parent) (c .before .before .before .before .before .before .before .before .before .before .before .args .name .now) (c .before .before .before .before .before .before .before .before .before .before .before .args .f) (c .before .before .before .before .before .before .before .if1 .left) _ (ap (λ (l : ℕ). admit (versionOf (c .before .before .before .before .before .before .before .before .before .before .before .args .view) (c .before .before .before .before .before .before .before .before .before .before .before .args .image .now) .verified) l (c .before .before .before .before .before .before .before .before .before .before .before .args .s .files) false (c .before .before .before .before .before .before .before .before .before .before .before .args .f)) (c .before .before .before .before .before .before .before .before .before .before .before .pre .1 .logs) ∙ sym (c .before .before .before .before .before .reach .ensures .0) ∙ c .before .entry .given .1), c .before .before .before .before .before .reach .ensures .1)
 
--- src/searching.rt:37:1
 same-length-3 : tie.Need-same-length-3
 same-length-3 c = search needs
 
--- src/searching.rt:37:1
 returns-4 : tie.Need-returns-4
-returns-4 c =
-    (link-named (c .before .before .before .before .before .before .before .before .before .before .before .before .before .args .s) (versionOf (c .before .before .before .before .before .before .before .before .before .before .before .before .before .args .view) (c .before .before .before .before .before .before .before .before .before .before .before .before .before .args .image .now) .bytes) (versionOf (c .before .before .before .before .before .before .before .before .before .before .before .before .before .args .view) (c .before .before .before .before .before .before .before .before .before .before .before .before .before .args .image .now) .verified) (c .before .before .before .before .before .before .before .before .before .before .before .before .before .args .parent) (c .before .before .before .before .before .before .before .before .before .before .before .before .before .args .name .now) (c .before .before .before .before .before .before .before .before .before .before .before .before .before .args .f) true (sym (c .before .is-named .ensures) ∙ c .if2 .taken)
-    ∙ link-is (c .before .before .before .before .before .before .before .before .before .before .before .before .before .args .s) (versionOf (c .before .before .before .before .before .before .before .before .before .before .before .before .before .args .view) (c .before .before .before .before .before .before .before .before .before .before .before .before .before .args .image .now) .bytes) (versionOf (c .before .before .before .before .before .before .before .before .before .before .before .before .before .args .view) (c .before .before .before .before .before .before .before .before .before .before .before .before .before .args .image .now) .verified) (c .before .before .before .before .before .before .before .before .before .before .before .before .before .args .parent) (c .before .before .before .before .before .before .before .before .before .before .before .before .before .args .name .now) (c .before .before .before .before .before .before .before .before .before .before .before .before .before .args .f) (c .before .before .before .before .before .before .before .before .before .if1 .left) _ (ap (λ (l : ℕ). admit (versionOf (c .before .before .before .before .before .before .before .before .before .before .before .before .before .args .view) (c .before .before .before .before .before .before .before .before .before .before .before .before .before .args .image .now) .verified) l (c .before .before .before .before .before .before .before .before .before .before .before .before .before .args .s .files) false (c .before .before .before .before .before .before .before .before .before .before .before .before .before .args .f)) (c .before .before .before .before .before .before .before .before .before .before .before .before .before .pre .1 .logs) ∙ sym (c .before .before .before .before .before .before .before .reach .ensures .0) ∙ c .before .before .before .entry2 .given .1), c .before .before .before .before .before .before .before .reach .ensures .1)
+returns-4 c = (
+  link-named (c .before .before .before .before .before .before .before .before .before .before .before .before .before .args .s) (versionOf (c .before .before .before .before .before .before .before .before .before .before .before .before .before .args .view) (c .before .before .before .before .before .before .before .before .before .before .before .before .before .args .image .now) .bytes) (versionOf (c .before .before .before .before .before .before .before .before .before .before .before .before .before .args .view) (c .before .before .before .before .before .before .before .before .before .before .before .before .before .args .image .now) .verified) (c .before .before .before .before .before .before .before .before .before .before .before .before .before .args .parent) (c .before .before .before .before .before .before .before .before .before .before .before .before .before .args .name .now) (c .before .before .before .before .before .before .before .before .before .before .before .before .before .args .f) true (sym (c .before .is-named .ensures) ∙ c .if2 .taken)
+      ∙ link-is (c .before .before .before .before .before .before .before .before .before .before .before .before .before .args .s) (versionOf (c .before .before .before .before .before .before .before .before .before .before .before .before .before .args .view) (c .before .before .before .before .before .before .before .before .before .before .before .before .before .args .image .now) .bytes) (versionOf (c .before .before .before .before .before .before .before .before .before .before .before .before .before .args .view) (c .before .before .before .before .before .before .before .before .before .before .before .before .before .args .image .now) .verified) (c .before .before .before .before .before .before .before .before .before .before .before .before .before .args .parent) (c .before .before .before .before .before .before .before .before .before .before .before .before .before .args .name .now) (c .before .before .before .before .before .before .before .before .before .before .before .before .before .args .f) (c .before .before .before .before .before .before .before .before .before .if1 .left) _ (ap (λ (l : ℕ). admit (versionOf (c .before .before .before .before .before .before .before .before .before .before .before .before .before .args .view) (c .before .before .before .before .before .before .before .before .before .before .before .before .before .args .image .now) .verified) l (c .before .before .before .before .before .before .before .before .before .before .before .before .before .args .s .files) false (c .before .before .before .before .before .before .before .before .before .before .before .before .before .args .f)) (c .before .before .before .before .before .before .before .before .before .before .before .before .before .pre .1 .logs) ∙ sym (c .before .before .before .before .before .before .before .reach .ensures .0) ∙ c .before .before .before .entry2 .given .1),
+  c .before .before .before .before .before .before .before .reach .ensures .1,
+)
 
--- src/searching.rt:37:1
 same-length-4 : tie.Need-same-length-4
 same-length-4 c = search needs
 
--- src/searching.rt:37:1
 returns-5 : tie.Need-returns-5
-returns-5 c =
-    (ap (λ (x : ℕ). link.Next x) (c .field-of .ensures)
-    ∙ link-named (c .before .before .before .before .before .before .before .before .before .before .before .before .before .before .args .s) (versionOf (c .before .before .before .before .before .before .before .before .before .before .before .before .before .before .args .view) (c .before .before .before .before .before .before .before .before .before .before .before .before .before .before .args .image .now) .bytes) (versionOf (c .before .before .before .before .before .before .before .before .before .before .before .before .before .before .args .view) (c .before .before .before .before .before .before .before .before .before .before .before .before .before .before .args .image .now) .verified) (c .before .before .before .before .before .before .before .before .before .before .before .before .before .before .args .parent) (c .before .before .before .before .before .before .before .before .before .before .before .before .before .before .args .name .now) (c .before .before .before .before .before .before .before .before .before .before .before .before .before .before .args .f) false (sym (c .before .before .is-named .ensures) ∙ c .before .if2 .left)
-    ∙ link-is (c .before .before .before .before .before .before .before .before .before .before .before .before .before .before .args .s) (versionOf (c .before .before .before .before .before .before .before .before .before .before .before .before .before .before .args .view) (c .before .before .before .before .before .before .before .before .before .before .before .before .before .before .args .image .now) .bytes) (versionOf (c .before .before .before .before .before .before .before .before .before .before .before .before .before .before .args .view) (c .before .before .before .before .before .before .before .before .before .before .before .before .before .before .args .image .now) .verified) (c .before .before .before .before .before .before .before .before .before .before .before .before .before .before .args .parent) (c .before .before .before .before .before .before .before .before .before .before .before .before .before .before .args .name .now) (c .before .before .before .before .before .before .before .before .before .before .before .before .before .before .args .f) (c .before .before .before .before .before .before .before .before .before .before .if1 .left) _ (ap (λ (l : ℕ). admit (versionOf (c .before .before .before .before .before .before .before .before .before .before .before .before .before .before .args .view) (c .before .before .before .before .before .before .before .before .before .before .before .before .before .before .args .image .now) .verified) l (c .before .before .before .before .before .before .before .before .before .before .before .before .before .before .args .s .files) false (c .before .before .before .before .before .before .before .before .before .before .before .before .before .before .args .f)) (c .before .before .before .before .before .before .before .before .before .before .before .before .before .before .pre .1 .logs) ∙ sym (c .before .before .before .before .before .before .before .before .reach .ensures .0) ∙ c .before .before .before .before .entry2 .given .1), c .before .before .before .before .before .before .before .before .reach .ensures .1)
+returns-5 c = (
+  ap (λ (x : ℕ). link.Next x) (c .field-of .ensures)
+      ∙ link-named (c .before .before .before .before .before .before .before .before .before .before .before .before .before .before .args .s) (versionOf (c .before .before .before .before .before .before .before .before .before .before .before .before .before .before .args .view) (c .before .before .before .before .before .before .before .before .before .before .before .before .before .before .args .image .now) .bytes) (versionOf (c .before .before .before .before .before .before .before .before .before .before .before .before .before .before .args .view) (c .before .before .before .before .before .before .before .before .before .before .before .before .before .before .args .image .now) .verified) (c .before .before .before .before .before .before .before .before .before .before .before .before .before .before .args .parent) (c .before .before .before .before .before .before .before .before .before .before .before .before .before .before .args .name .now) (c .before .before .before .before .before .before .before .before .before .before .before .before .before .before .args .f) false (sym (c .before .before .is-named .ensures) ∙ c .before .if2 .left)
+      ∙ link-is (c .before .before .before .before .before .before .before .before .before .before .before .before .before .before .args .s) (versionOf (c .before .before .before .before .before .before .before .before .before .before .before .before .before .before .args .view) (c .before .before .before .before .before .before .before .before .before .before .before .before .before .before .args .image .now) .bytes) (versionOf (c .before .before .before .before .before .before .before .before .before .before .before .before .before .before .args .view) (c .before .before .before .before .before .before .before .before .before .before .before .before .before .before .args .image .now) .verified) (c .before .before .before .before .before .before .before .before .before .before .before .before .before .before .args .parent) (c .before .before .before .before .before .before .before .before .before .before .before .before .before .before .args .name .now) (c .before .before .before .before .before .before .before .before .before .before .before .before .before .before .args .f) (c .before .before .before .before .before .before .before .before .before .before .if1 .left) _ (ap (λ (l : ℕ). admit (versionOf (c .before .before .before .before .before .before .before .before .before .before .before .before .before .before .args .view) (c .before .before .before .before .before .before .before .before .before .before .before .before .before .before .args .image .now) .verified) l (c .before .before .before .before .before .before .before .before .before .before .before .before .before .before .args .s .files) false (c .before .before .before .before .before .before .before .before .before .before .before .before .before .before .args .f)) (c .before .before .before .before .before .before .before .before .before .before .before .before .before .before .pre .1 .logs) ∙ sym (c .before .before .before .before .before .before .before .before .reach .ensures .0) ∙ c .before .before .before .before .entry2 .given .1),
+  c .before .before .before .before .before .before .before .before .reach .ensures .1,
+)
 
 pub follow-spec : {M : Type 1} → statement M
 follow-spec =

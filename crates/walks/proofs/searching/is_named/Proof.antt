@@ -1,3 +1,4 @@
+-- `walks::searching::is_named` meets its contract. Assumes nothing.
 use mathlib.Core.Path.{_∙_}
 use Prim.Native.Nat.{_+_}
 use native.Mathlib.Omega.{arith}
@@ -7,37 +8,25 @@ use Rattle.entries.proofs.ReadLaws.{size-small, level4-is, bytes-at}
 use borrow.Author.Needs.{needs}
 use Rattle.walks.proofs.searching.is_named.Statement.{statement}
 use Rattle.walks.proofs.searching.is_named.Tie as tie
-use Rattle.walks.proofs.searching.is_named.Reads as reads
-use Rattle.walks.proofs.searching.is_named.Lts as lts
-use Rattle.entries.proofs.reading.word_at.Reads as word-at-reads
-use Rattle.ivfc.proofs.gathering.gather.Reads as gather-reads
-use Rattle.number.proofs.runs.same_bytes.Reads as same-bytes-reads
 
--- src/searching.rt:32:28
 add-gather : tie.Need-add-gather
 add-gather c = omega (arith, c .before .before .pre .2, size-small (c .before .before .args .view) _ (c .before .before .pre .0))
 
--- src/searching.rt:32:36
 slice-aggregate-gather : tie.Need-slice-aggregate-gather
 slice-aggregate-gather c = search needs
 
--- src/searching.rt:32:5
 gather-requires : tie.Need-gather-requires
 gather-requires c κs = (c .before .before .before .pre .0, omega arith, rw (level4-is (c .before .before .before .args .view)) (omega (arith, c .before .before .before .pre .2)))
 
--- src/searching.rt:33:6
 word-at-requires : tie.Need-word-at-requires
 word-at-requires c κs = search needs
 
--- src/searching.rt:33:55
 slice-aggregate-same-bytes : tie.Need-slice-aggregate-same-bytes
 slice-aggregate-same-bytes c = search needs
 
--- src/searching.rt:33:44
 same-bytes-requires : tie.Need-same-bytes-requires
 same-bytes-requires c κs = search needs
 
--- src/searching.rt:27:1
 returns : tie.Need-returns
 returns c = named-is (c .before .before .before .before .before .before .before .before .args .s) (versionOf (c .before .before .before .before .before .before .before .before .args .view) (c .before .before .before .before .before .before .before .before .args .image .now) .bytes) (c .before .before .before .before .before .before .before .before .args .parent) (c .before .before .before .before .before .before .before .before .args .name .now) _ (c .before .before .before .before .before .before .before .before .args .f) (c .before .before .before .before .before .before .before .before .args .at) _ _ (c .before .before .before .before .before .before .before .before .pre .1) (c .before .before .word-at .ensures) (c .before .before .before .before .gather .ensures ∙ bytes-at (c .before .before .before .before .before .before .before .before .args .view) (c .before .before .before .before .before .before .before .before .args .image .now) (c .before .before .before .before .before .before .before .before .args .at + 4) 16 (omega (arith, c .before .before .before .before .before .before .before .before .pre .2))) (c .same-bytes .ensures)
 

@@ -1,5 +1,6 @@
-use Prim.Native.Nat.{ℕ, _+_, _≤_}
-use mathlib.Core.Path.{_≡_, refl, sym, ap, _∙_}
+-- `walks::searching::search_chain` meets its contract. Assumes nothing.
+use Prim.Native.Nat.{_+_, _≤_}
+use mathlib.Core.Path.{_≡_, refl, sym, _∙_}
 use lib.ListN.{length}
 use native.Mathlib.Nat.{pos-of-ne-zero}
 use native.Mathlib.Omega.{arith}
@@ -10,9 +11,6 @@ use Rattle.entries.specs.Known.{Knows}
 use Rattle.entries.proofs.ReadLaws.{size-small}
 use Rattle.walks.proofs.searching.search_chain.Statement.{statement}
 use Rattle.walks.proofs.searching.search_chain.Tie as tie
-use Rattle.walks.proofs.searching.search_chain.Reads as reads
-use Rattle.walks.proofs.searching.search_chain.Lts as lts
-use Rattle.walks.proofs.searching.follow.Reads as follow-reads
 
 abbrev Inv-loop : tie.InvT-loop
 Inv-loop s view image known₀ first parent name f₀ steps₀ known f steps =
@@ -22,53 +20,44 @@ Inv-loop s view image known₀ first parent name f₀ steps₀ known f steps =
 abbrev μ-loop : tie.MeasureT-loop
 μ-loop s view image known₀ first parent name f₀ steps₀ known f steps = steps
 
--- src/searching.rt:80:21
 add-steps : tie.Need-add-steps Inv-loop μ-loop
 add-steps c = omega (arith, max-small _ _ _ _ (c .before .before .before .before .pre .1 .file) (c .before .before .before .before .pre .1 .files), size-small (c .before .before .before .before .args .view) _ (c .before .before .before .before .pre .0 .rules))
 
--- src/searching.rt:81:5
 loop-holds : tie.Need-loop-holds Inv-loop μ-loop
 loop-holds c = (refl, omega arith, c .before .before .before .before .pre .0 .knows, counted-start _ _ _ _ _ _ _ refl)
 
--- src/searching.rt:82:13
 follow-requires : tie.Need-follow-requires Inv-loop μ-loop
 follow-requires c κs = (record { rules = c .before .before .before .before .before .before .before .pre .0 .rules; knows = c .before .before .loop .inv .2 }, c .before .before .before .before .before .before .before .pre .1)
 
--- src/searching.rt:84:24
 enum-known-link : tie.Need-enum-known-link Inv-loop μ-loop
 enum-known-link c = c .match .keys1
 
--- src/searching.rt:85:17
 same-length : tie.Need-same-length Inv-loop μ-loop
 same-length c = c .before .before .before .before .before .follow .kept .1 .1 .1 .0 ∙ c .before .before .before .before .before .before .before .before .loop .inv .0
 
--- src/searching.rt:85:17
 returns : tie.Need-returns Inv-loop μ-loop
 returns c = sym (c .before .before .before .before .before .before .before .before .loop .inv .3 ∙ counted-last _ _ _ _ _ _ _ _ (c .before .before .before .before .before .before .before .loop-test .taken) (sym (c .before .before .before .before .before .follow .ensures .0) ∙ c .before .link .given .1))
 
--- src/searching.rt:87:24
 enum-known-link-2 : tie.Need-enum-known-link-2 Inv-loop μ-loop
 enum-known-link-2 c = c .match .keys2
 
--- src/searching.rt:91:9
 sub-steps : tie.Need-sub-steps Inv-loop μ-loop
 sub-steps c = pos-of-ne-zero (c .before .before .before .before .before .before .before .loop-test .taken)
 
--- src/searching.rt:81:5
 loop-less : tie.Need-loop-less Inv-loop μ-loop
 loop-less c = omega (arith, pos-of-ne-zero (c .before .before .before .before .before .before .before .loop-test .taken))
 
--- src/searching.rt:81:5
 loop-again : tie.Need-loop-again Inv-loop μ-loop
-loop-again c =
-    (c .before .before .before .before .before .follow .kept .1 .1 .1 .0 ∙ c .before .before .before .before .before .before .before .before .loop .inv .0, omega (arith, c .before .before .before .before .before .before .before .before .loop .inv .1), c .before .before .before .before .before .follow .ensures .1,
-    c .before .before .before .before .before .before .before .before .loop .inv .3 ∙ counted-next _ _ _ _ _ _ _ _ (c .before .before .before .before .before .before .before .loop-test .taken) (sym (c .before .before .before .before .before .follow .ensures .0) ∙ c .before .link2 .given .1))
+loop-again c = (
+  c .before .before .before .before .before .follow .kept .1 .1 .1 .0 ∙ c .before .before .before .before .before .before .before .before .loop .inv .0,
+  omega (arith, c .before .before .before .before .before .before .before .before .loop .inv .1),
+  c .before .before .before .before .before .follow .ensures .1,
+  c .before .before .before .before .before .before .before .before .loop .inv .3 ∙ counted-next _ _ _ _ _ _ _ _ (c .before .before .before .before .before .before .before .loop-test .taken) (sym (c .before .before .before .before .before .follow .ensures .0) ∙ c .before .link2 .given .1),
+)
 
--- src/searching.rt:67:1
 same-length-2 : tie.Need-same-length-2 Inv-loop μ-loop
 same-length-2 c = c .before .loop .inv .0
 
--- src/searching.rt:67:1
 returns-2 : tie.Need-returns-2 Inv-loop μ-loop
 returns-2 c = sym (c .before .loop .inv .3 ∙ counted-none _ _ _ _ _ _ _ (c .loop-test .left))
 
