@@ -108,6 +108,17 @@ fn image_as(kind: Kind, logs: &Logs, data: &[u8]) -> Vec<u8> {
     image
 }
 
+/// The same with a byte changed in every hash block, so that none of them is verified.
+pub fn fresh_of(logs: &Logs, data: &[u8]) -> Vec<u8> {
+    let mut image = image_of(logs, data);
+    let layout = Layout::of(logs, data.len() >> logs.ivfc[3]);
+    for (level, log) in layout.hash_levels[..3].iter().zip(logs.ivfc) {
+        let start = PARTITION + layout.levels[2].0 + level.0;
+        image[start..start + level.1].chunks_mut(1 << log).for_each(|block| block[0] ^= 1);
+    }
+    image
+}
+
 /// The same with a byte changed in every second hash block of level 3.
 pub fn damaged_of(logs: &Logs, data: &[u8]) -> Vec<u8> {
     let mut image = image_of(logs, data);

@@ -30,6 +30,7 @@ mod subject;
 #[allow(dead_code)]
 mod rules {
     pub mod aes;
+    pub mod blank;
     pub mod block_hash;
     pub mod calls;
     pub mod cmac;
@@ -40,6 +41,7 @@ mod rules {
     pub mod faults;
     pub mod header;
     pub mod ivfc;
+    pub mod names;
     pub mod opening;
     pub mod refusal;
     pub mod running;
@@ -56,7 +58,7 @@ use std::process::ExitCode;
 use faults::Faults;
 use growth::Growth;
 use measures::World;
-use rows::{print_cells, print_head, Row, BLANK, DIGEST_OF_BLOCK, LONG_READ, LONG_WRITE, ROWS};
+use rows::{print_cells, print_head, Row, BLANK, DIGEST_OF_BLOCK, FRESH_WRITE, LONG_READ, LONG_WRITE, ROWS};
 
 const GROWTH: &str = "growth";
 const FAULTS: &str = "faults";
@@ -101,6 +103,7 @@ fn print_bars(rows: &[(&str, Row)], growth: Option<&Growth>, faults: Option<&Fau
         row(DIGEST_OF_BLOCK).map(|row| at_least("digest of 4 KiB, speed/(b)", row.speed_to_b(), 0.97)),
         row(LONG_READ).map(|row| at_least("verified read of 4096 blocks, speed/(b)", row.speed_to_b(), 1.8)),
         row(LONG_WRITE).and_then(Row::time_to_a).map(|ratio| at_most("write of 64 blocks, time/(a)", ratio, 0.25)),
+        row(FRESH_WRITE).and_then(Row::time_to_a).map(|ratio| at_most("64 blocks on fresh ground, time/(a)", ratio, 0.25)),
         row(BLANK).map(|row| at_most("blank image of 4096 blocks, time/(b)", 1.0 / row.speed_to_b(), 1.5)),
         growth.map(|growth| at_most("write of 1 byte, 64 MiB to 1 MiB", growth.of_writes(), 1.2)),
         faults.map(|faults| at_most("fault list, each block, 64 MiB to 1 MiB", faults.per_block(), 1.5)),

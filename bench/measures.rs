@@ -6,7 +6,7 @@ use crate::begun::{accepted, Begun};
 use crate::boundary::Library;
 use crate::calls::Calls;
 use crate::counting::{self, hashed_by, Hashed};
-use crate::image::{filled, image_of, BLOCK, TABLE_SIZE, USUAL};
+use crate::image::{filled, fresh_of, image_of, BLOCK, TABLE_SIZE, USUAL};
 use crate::names::{name_of, NamedSave};
 use crate::openssl;
 use crate::plain_sha256::{Sha256, FORMS};
@@ -49,6 +49,8 @@ pub struct World {
     plain_time: f64,
     data: Vec<u8>,
     image: Vec<u8>,
+    /// The same, but no hash block is verified.
+    fresh: Vec<u8>,
     /// What is written there: two lots, so that each write changes what the one before left.
     written: [Vec<u8>; 2],
 }
@@ -68,6 +70,7 @@ impl World {
             plain,
             plain_time,
             image: image_of(&USUAL, &data),
+            fresh: fresh_of(&USUAL, &data),
             data,
             written: [2, 3].map(|seed| filled(LONGEST_WRITE, seed)),
         }
@@ -132,22 +135,43 @@ impl World {
     /// The same place written again and again in one session.
     pub fn write(&self, place: usize, length: usize) -> Option<Row> {
         let data = self.written.each_ref().map(|bytes| &bytes[..length]);
-        self.check_agreement(place, data[0]);
-        let [mut proved, mut by_a] = self.begun();
+        self.check_agreement(&self.image, place, data[0]);
+        let [mut proved, mut by_a] = self.begun(&self.image);
         let mut hash = || self.hash_blocks(length.div_ceil(BLOCK));
         let times = best_turns([&mut proved.writing(place, data), &mut by_a.writing(place, data), &mut hash]);
-        Some(row(times, length, |calls| self.hashed_in_session(calls, |begun| begun.write(place, data[0]))))
+        Some(row(times, length, |calls| hashed_in_session(calls, &self.image, |begun| begun.write(place, data[0]))))
     }
 
     /// A session's first write, which moves what it touches off the live copies.
     pub fn first_write(&self, place: usize, length: usize) -> Option<Row> {
+        self.first_write_to(&self.image, place, length)
+    }
+
+    /// The same where no hash block is verified, so that those above it are rebuilt.
+    pub fn fresh_write(&self, place: usize, length: usize) -> Option<Row> {
+        self.first_write_to(&self.fresh, place, length)
+    }
+
+    fn first_write_to(&self, image: &[u8], place: usize, length: usize) -> Option<Row> {
         let data = &self.written[0][..length];
-        self.check_agreement(place, data);
-        self.first_call(length, |begun| begun.write(place, data), || self.hash_blocks(length.div_ceil(BLOCK)))
+        self.check_agreement(image, place, data);
+        self.first_call(image, length, |begun| begun.write(place, data), || self.hash_blocks(length.div_ceil(BLOCK)))
+    }
+
+    /// A session's first writes: so many, each as long as the distance to the next or shorter.
+    pub fn writes(&self, count: usize, length: usize, distance: usize) -> Option<Row> {
+        let call = |begun: &mut Begun| {
+            for index in 0..count {
+                let from = index * length % (LONGEST_WRITE - length);
+                begun.write(WRITTEN + index * distance, &self.written[0][from..from + length]);
+            }
+        };
+        let touched = (count * distance).div_ceil(BLOCK);
+        self.first_call(&self.image, count * length, call, || self.hash_blocks(touched))
     }
 
     pub fn commit(&self) -> Option<Row> {
-        self.first_call(0, |begun| begun.commit(), || 2.0 * self.hash_table())
+        self.first_call(&self.image, 0, |begun| begun.commit(), || 2.0 * self.hash_table())
     }
 
     /// The names of a save of so many files. What must be hashed are the blocks of the header and of the tables.
@@ -185,11 +209,10 @@ impl World {
         let [made, cleared] = &mut images;
         let mut make = || accepted(unsafe { teplovist_make_blank(made.as_mut_ptr(), made.len(), 0, blocks) });
         let mut clear = || black_box(&mut *cleared).fill(0);
-        let [time, clearing, hashing] = best_turns([
-            &mut || per_call(1, &mut make),
-            &mut || per_call(1, &mut clear),
-            &mut || per_call(1, || LEVELS.iter().for_each(|&(size, block)| self.hash_level(size, block))),
-        ]);
+        let [time, clearing, hashing] =
+            best_turns([&mut || per_call(1, &mut make), &mut || per_call(1, &mut clear), &mut || {
+                per_call(1, || LEVELS.iter().for_each(|&(size, block)| self.hash_level(size, block)))
+            }]);
         let must_hash = BLOCK + LEVELS.iter().map(|&(size, block)| size.min(block)).sum::<usize>() + TABLE;
         Some(Row { time, time_of_a: None, time_of_b: clearing + hashing, asked: 0, must_hash, a_hashes: None })
     }
@@ -200,24 +223,25 @@ impl World {
     }
 
     /// A call for which a session is begun each time, untimed.
-    fn first_call(&self, asked: usize, call: impl Fn(&mut Begun), mut hash: impl FnMut() -> f64) -> Option<Row> {
+    fn first_call(
+        &self,
+        image: &[u8],
+        asked: usize,
+        call: impl Fn(&mut Begun),
+        mut hash: impl FnMut() -> f64,
+    ) -> Option<Row> {
         let turn = |begun: &mut Begun| {
             begun.begin();
             per_call(1, || call(begun))
         };
-        let [mut proved, mut by_a] = self.begun();
+        let [mut proved, mut by_a] = self.begun(image);
         let times = best_turns([&mut || turn(&mut proved), &mut || turn(&mut by_a), &mut hash]);
-        Some(row(times, asked, |calls| self.hashed_in_session(calls, &call)))
-    }
-
-    fn hashed_in_session(&self, calls: &dyn Calls, call: impl Fn(&mut Begun)) -> Hashed {
-        let mut begun = Begun::new(calls, &self.image);
-        hashed_by(|| call(&mut begun))
+        Some(row(times, asked, |calls| hashed_in_session(calls, image, &call)))
     }
 
     /// The proved library and (a), each with an image of its own.
-    fn begun(&self) -> [Begun<'_>; 2] {
-        [Begun::new(&Library, &self.image), Begun::new(&self.straightforward, &self.image)]
+    fn begun(&self, image: &[u8]) -> [Begun<'_>; 2] {
+        [Begun::new(&Library, image), Begun::new(&self.straightforward, image)]
     }
 
     /// (b)'s turn at blocks of level 4.
@@ -232,9 +256,9 @@ impl World {
 
     /// The proved library, (a) and the independent rules leave the same image after each call of a session, and then
     /// read what was written.
-    fn check_agreement(&self, place: usize, data: &[u8]) {
-        let [proved, by_a] = self.begun();
-        let mut all = [proved, by_a, Begun::new(&Rules, &self.image)];
+    fn check_agreement(&self, image: &[u8], place: usize, data: &[u8]) {
+        let [proved, by_a] = self.begun(image);
+        let mut all = [proved, by_a, Begun::new(&Rules, image)];
         let steps: [&dyn Fn(&mut Begun); 4] =
             [&|_| (), &|begun| begun.write(place, data), &|begun| begun.commit(), &|begun| begun.begin()];
         for step in steps {
@@ -248,6 +272,11 @@ impl World {
             assert!(buffer == data, "what was written is not read");
         }
     }
+}
+
+fn hashed_in_session(calls: &dyn Calls, image: &[u8], call: impl Fn(&mut Begun)) -> Hashed {
+    let mut begun = Begun::new(calls, image);
+    hashed_by(|| call(&mut begun))
 }
 
 fn digest_once(digest: Sha256, message: &[u8]) {

@@ -12,7 +12,7 @@ use crate::plain_sha256::Sha256;
 use crate::rules::descriptor::{ENTRY, SELECTOR};
 use crate::rules::header::{HEADER, HEADER_LENGTH, LARGEST_TABLE};
 use crate::rules::refusal::Refusal;
-use crate::rules::session::{SessionBytes, SESSION_LENGTH};
+use crate::rules::session::{SessionBytes, FIRST, SECOND, SESSION_LENGTH};
 use opening::{Extent, Opened, Partition};
 use view::{Staging, View};
 
@@ -61,8 +61,9 @@ impl Straightforward {
             let live = halves[partition.selector as usize];
             image.copy_within(live..live + size as usize, halves[1 - partition.selector as usize]);
         }
+        *session = [0; SESSION_LENGTH];
         session[0] = 1;
-        session[1..].copy_from_slice(&image[HEADER..HEADER + HEADER_LENGTH]);
+        session[FIRST].copy_from_slice(&image[HEADER..HEADER + HEADER_LENGTH]);
         Ok(())
     }
 
@@ -77,9 +78,6 @@ impl Straightforward {
         let opened = self.open(image)?;
         check_begun(image, &opened, session)?;
         let partition = partition_of(&opened, partition)?;
-        if partition.external.is_some() {
-            return Err(Refusal::ExternalWrite);
-        }
         let staging = Staging {
             live: View::committed(&opened.header, partition, self.sha256),
             staged: View::staged(&opened.header, partition, self.sha256),
@@ -109,9 +107,11 @@ impl Straightforward {
         check_begun(image, &opened, session)?;
         let kind = opened.header.kind;
         let digest = (self.sha256)(opened.header.inactive.of(image));
+        session[0] = 0;
+        session[FIRST].copy_from_slice(&image[HEADER..HEADER + HEADER_LENGTH]);
         image[HEADER + kind.flag_place().0] ^= 1;
         image[HEADER + kind.hash_place()..][..digest.len()].copy_from_slice(&digest);
-        *session = [0; SESSION_LENGTH];
+        session[SECOND].copy_from_slice(&image[HEADER..HEADER + HEADER_LENGTH]);
         Ok(())
     }
 }
@@ -145,7 +145,7 @@ fn check_begun(image: &[u8], opened: &Opened, session: &SessionBytes) -> Result<
         let end = master + partition.master.size as usize;
         expected[master..end].copy_from_slice(&inactive[master..end]);
     }
-    if session[1..] == image[HEADER..HEADER + HEADER_LENGTH] && expected == inactive {
+    if session[FIRST] == image[HEADER..HEADER + HEADER_LENGTH] && expected == inactive {
         Ok(())
     } else {
         Err(Refusal::Outdated)

@@ -1,0 +1,86 @@
+/*
+ * Writes for bench/hashes to count in, on an image with IVFC logarithms 9, 9, 12, 12. A hash block of level 3 has the entries of 128 blocks, one of
+ * level 2 those of 16 hash blocks; a DPFS block of level 3 is as long as a hash block and does not begin with one.
+ */
+#include <stdio.h>
+#include <stdlib.h>
+#include <string.h>
+
+#include "teplovist.h"
+
+#define BLOCKS 4096
+#define BLOCK 4096
+#define MOST_WRITTEN 1000
+
+static uint8_t *image;
+static size_t length;
+static uint8_t session[TEPLOVIST_SESSION_SIZE];
+static uint8_t data[MOST_WRITTEN * BLOCK];
+
+/* The debugger stops here. */
+__attribute__((noinline)) void case_starts(const char *name) { __asm__ volatile("" : : "r"(name) : "memory"); }
+__attribute__((noinline)) void case_ends(void) { __asm__ volatile("" : : : "memory"); }
+
+static void must(uint64_t answer) {
+    if (answer != 0) {
+        printf("answered 0x%llx\n", (unsigned long long)answer);
+        exit(1);
+    }
+}
+
+/* Changes a byte in every hash block, in both copies: none of them is verified then. */
+static void spoil(void) {
+    uint64_t d[TEPLOVIST_DESCRIPTION_LENGTH];
+    must(teplovist_open(image, length, d));
+    const uint64_t *a = d + TEPLOVIST_A;
+    size_t inner = a[TEPLOVIST_PARTITION_OFFSET] + a[TEPLOVIST_DPFS_LEVEL3_OFFSET];
+    int copy, level;
+    for (copy = 0; copy < 2; copy++)
+        for (level = 0; level < 3; level++) {
+            const uint64_t *l = a + TEPLOVIST_IVFC_LEVEL1_OFFSET + 3 * level;
+            uint64_t place;
+            for (place = 0; place < l[1]; place += (uint64_t)1 << l[2])
+                image[inner + copy * a[TEPLOVIST_DPFS_LEVEL3_SIZE] + l[0] + place] ^= 1;
+        }
+}
+
+static void start(int fresh) {
+    memset(session, 0, sizeof session);
+    must(teplovist_make_blank(image, length, 0, BLOCKS));
+    if (fresh)
+        spoil();
+    must(teplovist_begin(image, length, session));
+}
+
+static void measured(const char *name, int fresh, uint64_t place, size_t count) {
+    start(fresh);
+    case_starts(name);
+    must(teplovist_write(image, length, session, 0, place, data, count));
+    case_ends();
+    /* The same once more: nothing moves off the live copies now, and what was fresh is sound. */
+    case_starts("the same again");
+    must(teplovist_write(image, length, session, 0, place, data, count));
+    case_ends();
+}
+
+int main(void) {
+    length = teplovist_blank_length(BLOCKS);
+    image = malloc(length);
+    if (image == NULL)
+        return 1;
+    memset(data, 7, sizeof data);
+    measured("1 byte, sound", 0, 5 * BLOCK + 9, 1);
+    measured("2 bytes of two hash blocks, sound", 0, 128 * BLOCK - 1, 2);
+    measured("1 block, sound", 0, 5 * BLOCK, BLOCK);
+    measured("2 blocks of two hash blocks, sound", 0, 127 * BLOCK, 2 * BLOCK);
+    measured("64 blocks, sound", 0, 100 * BLOCK, 64 * BLOCK);
+    measured("64 blocks and parts of two more, sound", 0, 100 * BLOCK - 7, 64 * BLOCK + 14);
+    measured("1000 blocks, sound", 0, 2000 * BLOCK, 1000 * BLOCK);
+    measured("1000 blocks but a byte at each end, sound", 0, 2000 * BLOCK + 1, 1000 * BLOCK - 2);
+    measured("1 block, fresh", 1, 5 * BLOCK, BLOCK);
+    measured("2 blocks of two hash blocks, fresh", 1, 127 * BLOCK, 2 * BLOCK);
+    measured("64 blocks, fresh", 1, 100 * BLOCK, 64 * BLOCK);
+    measured("1000 blocks, fresh", 1, 2000 * BLOCK, 1000 * BLOCK);
+    free(image);
+    return 0;
+}

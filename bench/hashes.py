@@ -1,0 +1,80 @@
+"""For gdb: counts, in each case that the program marks, how often ivfc::hashing::digests_from hashes each block. See bench/hashes."""
+import collections
+
+import gdb
+
+MOST = 2
+HASH_LEVELS = (1, 2, 3)
+
+
+class Tally:
+    name = ''
+    hashed = collections.Counter()
+    cases = 0
+    broken = []
+
+
+def register(name):
+    return int(gdb.parse_and_eval('$' + name)) & 0xFFFF_FFFF_FFFF_FFFF
+
+
+def word(address):
+    return int.from_bytes(gdb.selected_inferior().read_memory(address, 8), 'little')
+
+
+class Returned(gdb.Breakpoint):
+    """A place where digests_from returns to: its result says how many blocks it hashed."""
+
+    places = {}
+    waiting = None
+
+    def stop(self):
+        if Returned.waiting is not None:
+            result, level, first = Returned.waiting
+            Returned.waiting = None
+            for block in range(first, first + word(result)):
+                Tally.hashed[level, block] += 1
+        return False
+
+
+class Hashing(gdb.Breakpoint):
+    """digests_from(view, image, i, b, end): the result's place, the level and the first block are in registers. It does not call itself."""
+
+    def stop(self):
+        place = word(register('rsp'))
+        if place not in Returned.places:
+            Returned.places[place] = Returned(f'*{place:#x}', internal=True)
+        Returned.waiting = (register('rdi'), register('rcx'), register('r8'))
+        return False
+
+
+class Starts(gdb.Breakpoint):
+    def stop(self):
+        Tally.name = gdb.Value(register('rdi')).cast(gdb.lookup_type('char').pointer()).string()
+        Tally.hashed.clear()
+        return False
+
+
+class Ends(gdb.Breakpoint):
+    def stop(self):
+        Tally.cases += 1
+        cells = []
+        for level in (*HASH_LEVELS, 4):
+            counts = [n for (at, _), n in Tally.hashed.items() if at == level]
+            cells.append(f'{len(counts):5} blocks {max(counts, default=0)} times')
+            if level in HASH_LEVELS and max(counts, default=0) > MOST:
+                Tally.broken.append(f'{Tally.name}: a block of level {level} is hashed {max(counts)} times')
+        print(f'{Tally.name:44}' + ' |'.join(cells))
+        return False
+
+
+gdb.execute('set pagination off')
+Hashing("'ivfc::hashing::digests_from'", internal=True)
+Starts('case_starts', internal=True)
+Ends('case_ends', internal=True)
+print('at most, of levels 1, 2, 3 and 4:')
+gdb.execute('run')
+if int(gdb.parse_and_eval('$_exitcode')) != 0 or Tally.cases == 0:
+    Tally.broken.append('the program did not run to its end')
+print('\n'.join(Tally.broken) or f'hashes: {Tally.cases} writes, no hash block more than {MOST} times')
+gdb.execute(f'quit {1 if Tally.broken else 0}')
