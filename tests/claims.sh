@@ -41,4 +41,10 @@ reports "$pages/missing.md" "no page $pages/missing.md"
 printf 'A sentence that cites nothing.\n' > "$pages/page.md"
 reports "$pages/page.md" 'claims: 0 citations, 0 wrong'
 
+# Nor may a page have the marks of a merge that was left half done.
+if grep -nE '^(<{7}|={7}|>{7})( |$)' README.md docs/*.md docs/landings/*.md; then
+  echo 'claims: a page has the marks of a merge'
+  exit 1
+fi
+
 python3 tests/claims.py docs/CLAIMS.md docs/TRUST.md docs/THEOREM.md
