@@ -30,7 +30,7 @@ passes 'tests/claims.sh#passes'
 reports_name crates/ivfc/src/verifying.rt if
 reports_name crates/ivfc/src/verifying.rt fn
 reports_name crates/ivfc/src/verifying.rt no_such_function
-reports_name crates/dpfs/src/staging.rt image
+reports_name crates/stores/src/staging.rt image
 reports_name crates/ivfc/specs/Verified.antt pub
 reports_name crates/ivfc/specs/Verified.antt verifi
 reports_name crates/number/proofs/BlockLaws.antt to

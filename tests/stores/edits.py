@@ -3,7 +3,7 @@ what it stored can meet every contract; most of these do not trouble to, since t
 
 BEGINNING = 'steps/src/beginning.rt'
 COMMITTING = 'commits/src/lib.rt'
-STAGING = 'dpfs/src/staging.rt'
+STAGING = 'stores/src/staging.rt'
 SESSIONS = 'container/src/sessions.rt'
 RUNS = 'number/src/runs.rt'
 GATEWAY = 'gateway/src/lib.rt'
@@ -94,14 +94,18 @@ OTHER_STORES = [
         GATEWAY: [after(lines('let begun = sessions::begin(image, session_of(before));'), 'image[0] = 0;')]}),
     ('a call that nobody knows', 'a public call that is lent other parameters than those known', {
         SESSIONS: [(NEW, 'pub fn touch(image: &mut [u8]) {\n    image[0] = 0;\n}\n\n' + NEW)]}),
-    ('a weaker demand on a place', 'dpfs/src/staging.rt: does not have', {
+    ('a weaker demand on a place', 'stores/src/staging.rt: does not have', {
         STAGING: [('(Free space (now image) i) × (i < length (now image))', '(i < length (now image))')]}),
-    ('another rule of what is free', 'dpfs/src/staging.rt: has Free from', {STAGING: [('specs.Free.{Free}', 'specs.Rules.{Free}')]}),
-    ('a store that sometimes goes elsewhere', 'dpfs::staging::store: is not, statement by statement', {STAGING: [(
+    ('a weaker demand on a space', 'stores/src/staging.rt: does not have', {
+        STAGING: [('(OwnSpace space (now image)) × (Free space (now image) i)', '(Free space (now image) i)')]}),
+    ('another rule of whose a space is', 'stores/src/staging.rt: has OwnSpace from', {
+        STAGING: [('Rattle.stores.specs.Rules.{OwnSpace, ', 'Rattle.dpfs.specs.Free.{OwnSpace};\nghost use Rattle.stores.specs.Rules.{')]}),
+    ('another rule of what is free', 'stores/src/staging.rt: has Free from', {STAGING: [('specs.Free.{Free}', 'specs.Rules.{Free}')]}),
+    ('a store that sometimes goes elsewhere', 'stores::staging::store: is not, statement by statement', {STAGING: [(
         lines('image[at] = value;'),
         lines('let same = image[at] == value;', 'let place = if same { 0 } else { at };', 'let kept = image[place];',
               'image[place] = if same { kept } else { value };'))]}),
-    ('a second store', 'dpfs::staging::store: is not, statement by statement', {STAGING: [after(lines('image[at] = value;'), 'image[at] = value;')]}),
+    ('a second store', 'stores::staging::store: is not, statement by statement', {STAGING: [after(lines('image[at] = value;'), 'image[at] = value;')]}),
     ('a store to a part of the image', 'begin: steps::beginning::stage_image hands on something else than the whole image', in_begin(
         'let at = inactive_range(c.header).offset;', 'store(space, &mut image[1..], at, 0);')),
 ]
@@ -136,7 +140,7 @@ OTHER_SPACES = [
         before(lines('write_partition(image, session, c, partition, place, bytes)'),
                'let other = super::reading::open(bytes);',
                'let Opened::Valid(d) = other else {', '    return refused(session, Refusal::Stale);', '};',
-               'dpfs::staging::store(space_of(d), image, 0, 0);')]}),
+               'stores::staging::store(space_of(d), image, 0, 0);')]}),
     ('a container of a part of the image', 'container::sessions::begin: is to open its image, whole and once', {SESSIONS: [(
         'calls.begin (now (image .entry)) session) ⌝ }\n{\n    let answer = open(image);',
         'calls.begin (now (image .entry)) session) ⌝ }\n{\n    let answer = open(&image[1..]);')]}),
@@ -154,9 +158,9 @@ OTHER_COMMITS = [
         SESSIONS: [after(SWITCHED, 'switch_tables(image, c);')]}),
     ('each byte of the header twice', 'number::runs::copy_into: is not, statement by statement', {RUNS: [before(
         lines('    target[at + k] = run[k];'), '    target[at + k] = 0;')]}),
-    ('a store by commit, put back', 'commit: the image is stored to by dpfs::staging::store', {SESSIONS: [before(
+    ('a store by commit, put back', 'commit: the image is stored to by stores::staging::store', {SESSIONS: [before(
         SWITCHED, 'let at = layout::tables::inactive_range(c.header).offset;', 'let value = image[at as usize];',
-        'dpfs::staging::store(space_of(c), image, at, 0);', 'dpfs::staging::store(space_of(c), image, at, value);')]}),
+        'stores::staging::store(space_of(c), image, at, 0);', 'stores::staging::store(space_of(c), image, at, value);')]}),
     ('a store by commit itself', 'commit: the image is stored to by container::sessions::commit', {SESSIONS: [before(
         SWITCHED, 'let value = image[0x300];', 'image[0x300] = value;')]}),
     ('two signatures', 'commit_signed: number::runs::copy_into is to have the image from 2 calls', {COMMITTING: [before(
@@ -190,9 +194,11 @@ OTHER_PLACES = [
         **STORE_OUTSIDE_IS_PUBLIC, SESSIONS: [before(lines('write_partition(image, session, c, partition, place, bytes)'), *ONE_BYTE_OUTSIDE)]}),
     ('a weaker demand on a place in place', 'update/src/lib.rt: does not have', {
         UPDATE: [('(InPlace view x n i) × (i < length (now image))', '(i < length (now image))')]}),
+    ('a weaker demand on a view', 'update/src/lib.rt: does not have', {
+        UPDATE: [('(OwnView view (now image)) × (x + n ≤ view .level4 .size) × ', '(x + n ≤ view .level4 .size) × ')]}),
     ('another rule of what is in place', 'update/src/lib.rt: has InPlace from', {
-        UPDATE: [('ghost use Rattle.update.specs.Rules.{StagedRules, WriteRules, EndsRules, InPlace};',
-                  'ghost use Rattle.update.specs.Rules.{StagedRules, WriteRules, EndsRules};\n'
+        UPDATE: [('ghost use Rattle.update.specs.Rules.{OwnView, StagedIn, WriteRules, EndsRules, InPlace};',
+                  'ghost use Rattle.update.specs.Rules.{OwnView, StagedIn, WriteRules, EndsRules};\n'
                   'ghost use Rattle.update.specs.Staged.{InPlace};')]}),
     ('bytes put twice, first elsewhere', 'write: update::put_level is called by', {
         UPDATE: [before(PUT, 'put_level(space, view, image, 4, 0, values);')]}),
@@ -230,9 +236,9 @@ OTHER_REVERTS = [
     ('a revert that commits before', 'revert reaches commits::switch_tables', {SESSIONS: [before(RESTORED, 'switch_tables(image, _c);')]}),
     ('a store by a revert itself', 'revert: the image is stored to by container::sessions::revert', {SESSIONS: [before(
         RESTORED, 'let value = image[0x300];', 'image[0x300] = value;')]}),
-    ('a store by a revert, put back', 'revert: the image is stored to by dpfs::staging::store', {SESSIONS: [before(
+    ('a store by a revert, put back', 'revert: the image is stored to by stores::staging::store', {SESSIONS: [before(
         RESTORED, 'let at = layout::tables::inactive_range(_c.header).offset;', 'let value = image[at as usize];',
-        'dpfs::staging::store(space_of(_c), image, at, 0);', 'dpfs::staging::store(space_of(_c), image, at, value);')]}),
+        'stores::staging::store(space_of(_c), image, at, 0);', 'stores::staging::store(space_of(_c), image, at, value);')]}),
     ('a signed revert that stores twice', 'revert_signed: commits::restore_signed is to have the image from one call', {
         SESSIONS: [after(SIGNED_BACK, 'restore_signed(image, former, key, signer);')]}),
     ('a signed revert that stores the header before', 'revert_signed reaches commits::restore', {
@@ -275,5 +281,5 @@ FORMS = [
     ('noDefault', '(otherwise skip)'),
     ('(tyArray ', '(tyRow '),
     ('(fnRef "number::runs::copy_into")', '(fnRef "number::runs::nobody")'),
-    ('(fn-def "dpfs::staging::copy_within"', '(fn-def "dpfs::staging::store"'),
+    ('(fn-def "stores::staging::copy_within"', '(fn-def "stores::staging::store"'),
 ]

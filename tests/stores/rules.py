@@ -1,14 +1,15 @@
 """What must hold of the stores to an image, and what is found where it does not. See docs/TRUST.md for what rests on it.
 
-1. Begin stores to an image in one function, dpfs::staging::store: at the place i that it is given, of which its `requires` says that it is free
-   in the space that it is given. Write stores there too, and to an external level 4 in place (02, W10), in update::store_outside: at the place i
-   of which its `requires` says that it lies in the external level 4 of the view, in the range of n bytes from x on; and this is the range that the
-   call is to write, in the staged view of its partition: place and bytes are handed on as they are, from the call to there, and what is put into
+1. Begin stores to an image in one function, stores::staging::store: at the place i that it is given, of which its `requires` says that it is free
+   in the space of the container that the image opens as. Write stores there too, and to an external level 4 in place (02, W10), in
+   update::store_outside: at the place i of which its `requires` says that it lies in the external level 4 of a staged view of that container, in the
+   range of n bytes from x on; and this is the range that the call is to write, in the staged view of its partition: place and bytes are handed on as they are, from the call to there, and what is put into
    the levels above goes elsewhere, since it is put into a level below 4. A commit stores in one place: it hands the image, whole, to
    number::runs::copy_into once, which stores each byte of the header once, from 0x100 on; a signed one twice, for the 16 bytes of the signature at
    the front and for the header. A revert (02, W13) has a commit's unit: the former header is stored once, and never to try it. The functions at the
    ends are compared statement by statement.
-2. A space or a view is made in views::places alone, of a container that layout makes, when it opens the image that the call was lent, whole.
+2. A space or a view is made in views::places alone, of a container that layout makes, when it opens the image that the call was lent, whole. That
+   no other one will do is proved, since the contracts of 1 ask whose they are; this looks at the same from the other side.
    Nobody changes a field of one, or takes its address. What an image opens as under another header is asked by a revert alone, which uses no space.
 3. The contracts that this rests on stand as they are written here.
 4. One call is an exception to 1 and 2: making a blank image stores to every byte of the image that it is lent. 02, W12 says so: "01's list of bytes
@@ -18,7 +19,7 @@ import re
 from flow import Flow, Flows, whole_slices
 from mir import Assign
 
-STORE = 'dpfs::staging::store'
+STORE = 'stores::staging::store'
 OUTSIDE = 'update::store_outside'
 OPEN = 'layout::opening::open'
 COPY = 'number::runs::copy_into'
@@ -198,25 +199,29 @@ PINNED = {
 
 # A function with its contract, and the definition that the contract cites, by the module that it comes from.
 CONTRACTS = [
-    ('dpfs/src/staging.rt',
-     'pub fn store(space: Space, image: &mut [u8], i: u64, value: u8) requires { ⌜ (Free space (now image) i) × (i < length (now image)) ⌝ }',
+    ('stores/src/staging.rt',
+     'pub fn store(space: Space, image: &mut [u8], i: u64, value: u8) '
+     'requires { ⌜ (OwnSpace space (now image)) × (Free space (now image) i) × (i < length (now image)) ⌝ }',
      'Rattle.dpfs.specs.Free', 'Free'),
+    ('stores/src/staging.rt', 'pub fn store(space: Space, image: &mut [u8], i: u64, value: u8) ', 'Rattle.stores.specs.Rules', 'OwnSpace'),
     ('update/src/lib.rt',
      'fn store_outside(view: View, image: &mut [u8], x: u64, n: u64, i: u64, value: u8) '
-     'requires { ⌜ (InPlace view x n i) × (i < length (now image)) ⌝ }',
+     'requires { ⌜ (OwnView view (now image)) × (x + n ≤ view .level4 .size) × (InPlace view x n i) × (i < length (now image)) ⌝ }',
      'Rattle.update.specs.Rules', 'InPlace'),
+    ('update/src/lib.rt', 'fn store_outside(view: View, image: &mut [u8], x: u64, n: u64, i: u64, value: u8) ',
+     'Rattle.update.specs.Rules', 'OwnView'),
     ('update/src/lib.rt',
      'fn put_level(space: Space, view: View, image: &mut [u8], i: u64, x: u64, values: &[u8]) '
-     'requires { ⌜ (StagedRules space view (length (now image))) × (i ≤ 4) × (x + length (now values) ≤ levelOf view i .size) ⌝ }',
+     'requires { ⌜ (StagedIn space view (now image)) × (i ≤ 4) × (x + length (now values) ≤ levelOf view i .size) ⌝ }',
      'Rattle.ivfc.specs.Views', 'levelOf'),
     ('update/src/lib.rt',
      'fn enter_some(space: Space, view: View, image: &mut [u8], i: u64, b: u64, end: u64) -> u64 '
-     'requires { ⌜ (StagedRules space view (length (now image))) × (i < 4) × ',
-     'Rattle.update.specs.Rules', 'StagedRules'),
+     'requires { ⌜ (StagedIn space view (now image)) × (i < 4) × ',
+     'Rattle.update.specs.Rules', 'StagedIn'),
     ('update/src/clearing.rt',
      'pub fn clear_above( space: Space, view: View, image: &mut [u8], i: u64, first: u64, last: u64, front: bool, back: bool, ) '
-     'requires { ⌜ (StagedRules space view (length (now image))) × (i ≤ 4) × ',
-     'Rattle.update.specs.Rules', 'StagedRules'),
+     'requires { ⌜ (StagedIn space view (now image)) × (i ≤ 4) × ',
+     'Rattle.update.specs.Rules', 'StagedIn'),
     ('views/src/places.rt', 'pub fn staged_view(c: Container, q: u64) -> View requires { ⌜ PlacesFit c q ⌝ } ensures { λ r. ⌜ r ≡ stagedView c q ⌝ }',
      'Rattle.views.specs.Places', 'stagedView'),
     ('views/src/places.rt', 'pub fn space_of(c: Container) -> Space requires { ⌜ SpaceFits c ⌝ } ensures { λ r. ⌜ r ≡ spaceOf c ⌝ }',

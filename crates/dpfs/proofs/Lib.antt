@@ -7,5 +7,4 @@ pub mod TreeLaws
 pub mod PutLaws
 pub mod BeginLaws
 pub mod SpaceLaws
-mod CodeLaws
 pub mod Examples

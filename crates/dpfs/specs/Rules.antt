@@ -1,17 +1,15 @@
 -- What the functions of this crate ask of a tree and of an image's space; an image that opens keeps to it.
 use mathlib.Core.Path.{_≡_}
 use mathlib.Core.List.{List}
-use mathlib.Core.Bool.{Bool, true, not}
+use mathlib.Core.Bool.{Bool, true}
 use mathlib.Core.Logic.{_⊎_}
 use Prim.Native.Nat.{ℕ, _+_, _-_, _*_, _%_, _≤_, _<_, min}
-use lib.ListN.{length}
 use Rattle.number.specs.declared.Range.{Range}
 use Rattle.number.specs.declared.Level.{Level}
 use Rattle.number.specs.Blocks.{blockSize, blocks, blockOf}
 use Rattle.dpfs.specs.declared.Tree.{Tree}
 use Rattle.dpfs.specs.declared.Space.{Space}
-use Rattle.dpfs.specs.Free.{Free}
-use Rattle.dpfs.specs.Tree.{place, select3}
+use Rattle.dpfs.specs.Tree.{select3}
 
 -- the pairs of halves of two levels do not overlap
 abbrev pub Disjoint : Level → Level → Type 0
@@ -67,23 +65,6 @@ pub record SpaceRules (space : Space) (n : ℕ) : Type 0 where
 -- a tree is one of the space's
 abbrev pub Among : Tree → Space → Type 0
 Among tree space = (tree ≡ space .a) ⊎ ((space .two ≡ true) × (tree ≡ space .b))
-
--- what a copy of n bytes asks: both places lie in the image and apart, and the target is free
-pub record CopyRules (space : Space) (image : List ℕ) (source target n : ℕ) : Type 0 where
-  pub rules : SpaceRules space (length image)
-  pub from : source + n ≤ length image
-  pub to : target + n ≤ length image
-  pub apart : (source + n ≤ target) ⊎ (target + n ≤ source)
-  pub free : (m : ℕ) → m < n → Free space image (target + m)
-
--- what the copy of block b of a level from one half to the other asks: the level lies in the image and has the block, and the other half's
--- copy of it is free
-pub record BlockRules (space : Space) (image : List ℕ) (l : Level) (second : Bool) (b : ℕ) : Type 0 where
-  pub rules : SpaceRules space (length image)
-  pub log : l .log ≤ 16
-  pub inside : l .offset + 2 * l .size ≤ length image
-  pub exists : b < blocks l
-  pub free : (y : ℕ) → y < l .size → blockOf l y ≡ b → Free space image (place l (not second) y)
 
 -- how many bytes of level 3 from x on lie in x's block, up to `end`
 unfoldable pub blockRest : Tree → (x end : ℕ) → ℕ

@@ -11,7 +11,7 @@ ghost use Rattle.dpfs.specs.Tree.{place, select2, select3};
 ghost use Rattle.dpfs.specs.Rules.{WellPlaced};
 
 // The byte that holds bit n.
-pub(crate) fn byte_of_bit(n: u64) -> u64
+pub fn byte_of_bit(n: u64) -> u64
     ensures { λ r. ⌜ r ≡ bitByte n ⌝ }
 {
     4 * (n / 32) + (3 - n % 32 / 8)
@@ -40,7 +40,7 @@ pub fn bit_in(half: &[u8], n: u64) -> bool
 }
 
 // The byte that holds bit n, with that bit flipped.
-pub(crate) fn flipped(value: u8, n: u64) -> u8
+pub fn flipped(value: u8, n: u64) -> u8
     ensures { λ r. ⌜ r ≡ flipBit value (bitPlace n) ⌝ }
 {
     let k = 7 - n % 8;

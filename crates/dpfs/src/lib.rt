@@ -4,7 +4,6 @@ use number::Range;
 
 pub mod bits;
 pub mod reading;
-pub mod staging;
 
 // The three levels of a partition's DPFS, each a pair of halves: its place in the image, the size of one half, the logarithm of its block
 // size. Level 1 has no blocks: its logarithm is not used. `live` is the half of level 1 that the active table's selector names.

@@ -1,5 +1,5 @@
 -- An image that differs from another in free bytes only: it opens alike, with the same header, free bytes and committed views. Assumes nothing.
-use mathlib.Core.Path.{_≡_, refl, sym, ap}
+use mathlib.Core.Path.{_≡_, refl, ap}
 use mathlib.Core.Bool.{true}
 use mathlib.Core.List.{List}
 use mathlib.Core.Logic.{inl, inr}
@@ -13,13 +13,14 @@ use Rattle.layout.specs.Tables.{active}
 use Rattle.layout.specs.Opening.{opened}
 use Rattle.layout.specs.Guarantees.{Guarantees}
 use Rattle.layout.proofs.GuaranteeLaws.{guarantees}
-use Rattle.layout.proofs.FrameLaws.{agree-part, frame-opened}
+use Rattle.layout.proofs.FrameLaws.{agree-part}
 use Rattle.dpfs.specs.Free.{InRange}
 use Rattle.dpfs.proofs.SpaceLaws.{kept-content, kept-free}
 use Rattle.views.specs.Places.{partitions, slotOf, partitionOf, treeOf, viewIn, committedView, spaceOf}
 use Rattle.views.specs.Protected.{ExternalByte, Protected}
 use Rattle.views.proofs.PlaceLaws.{committed-rules, committed-master, space-rules, tree-among}
 use Rattle.views.proofs.ProtectedLaws.{protected-not-free}
+use Rattle.views.proofs.OpenLaws.{free-opens}
 use Rattle.steps.specs.Sessions.{selectorFlipped, forEach, stagedTable}
 use Rattle.history.specs.Former.{Left}
 use Rattle.history.proofs.CallLaws.{FrameLaws}
@@ -68,7 +69,7 @@ pub framed : (image left : List ℕ) (c : Container) → opened image ≡ openin
 framed image left c o k =
     let g = guarantees image c o in
     record {
-      opens = frame-opened image left c o (sym (k .size)) (λ i a b. sym (front-stays image left c g k i b)) (λ i a b. sym (active-stays image left c g k i (a, b)));
+      opens = free-opens image left c o k;
       header = header-stays image left c g k;
       free = λ i f. kept-free (spaceOf c) (length image) (space-rules image c g) image left k i .0 f;
       version = λ q h. same-version (committedView c q) (committedView c q) left image (length image) (committed-rules image c g q h) (seen image left c g k q h);

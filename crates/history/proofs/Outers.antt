@@ -16,6 +16,7 @@ use Rattle.number.specs.Ranges.{Apart, levelRange, twice}
 use Rattle.number.specs.Blocks.{blocks, blockOf, blockSize, blockLength}
 use Rattle.number.specs.Bytes.{bytes}
 use Rattle.number.proofs.RangeLaws.{apart-swap}
+use Rattle.number.proofs.FrameLaws.{keeps-more}
 use Rattle.number.proofs.BlockLaws.{block-inside, exists-byte, block-byte}
 use Rattle.layout.specs.declared.Container.{Container}
 use Rattle.layout.specs.declared.Opened.the-variants as opening
@@ -25,7 +26,7 @@ use Rattle.layout.specs.Descriptors.{externalRange}
 use Rattle.layout.specs.Opening.{opened}
 use Rattle.layout.specs.Guarantees.{Guarantees, ExternalGuarantees}
 use Rattle.layout.proofs.GuaranteeLaws.{guarantees}
-use Rattle.layout.proofs.FrameLaws.{agree-part, frame-opened}
+use Rattle.layout.proofs.FrameLaws.{agree-part}
 use Rattle.dpfs.specs.Tree.{place, content}
 use Rattle.dpfs.specs.Free.{InRange, FreeIn, Free}
 use Rattle.dpfs.proofs.SpareLaws.{Spares, spares-or, Avoids, avoids-spares, spared-content, spared-free}
@@ -41,6 +42,7 @@ use Rattle.views.specs.Places.{partitions, slotOf, partitionOf, treeIn, treeOf,
 use Rattle.views.specs.Protected.{ExternalByte, Protected}
 use Rattle.views.proofs.PlaceLaws.{present, first-there, second-there, third-missing, active-partition, tree-inside, tree-rules, committed-rules, committed-master, space-rules, tree-among}
 use Rattle.views.proofs.ProtectedLaws.{protected-not-free, not-free-protected}
+use Rattle.views.proofs.OpenLaws.{loose-opens}
 use Rattle.views.specs.Versions.{versionOf}
 use Rattle.history.specs.External.{InPlace, LeftBut, ProtectedBut}
 use Rattle.history.proofs.Seen.{SameSeen, same-version}
@@ -160,7 +162,7 @@ module _ (image left : List ℕ) (c : Container) (g : Guarantees image c) (W : �
   header-stays = agree-part left image headerRange (k .size) (λ i a b. front-stays i (omega arith))
 
   pub still-opens : (o : opened image ≡ opening.Valid c) → opened left ≡ opening.Valid c
-  still-opens o = frame-opened image left c o (sym (k .size)) (λ i a b. sym (front-stays i b)) (λ i a b. sym (active-stays i (a, b)))
+  still-opens o = loose-opens image left c o (keeps-more (λ i. ⊎-elim inl (λ w. inr (outer i w))) k)
 
   w-avoids : (r : ℕ) → r < partitions c → Avoids W (treeOf c r)
   w-avoids r l = record {

@@ -16,6 +16,7 @@ use Rattle.layout.specs.Opening.{opened}
 use Rattle.layout.proofs.GuaranteeLaws.{guarantees}
 use Rattle.update.specs.Staged.{writtenTo}
 use Rattle.update.specs.Rules.{WriteRules}
+use Rattle.update.proofs.StagedLaws.{staged}
 use Rattle.update.proofs.ImageLaws.{write-bytes, write-verified, write-held, write-plain}
 use Rattle.views.specs.Places.{partitions, partitionOf, viewIn, committedView, stagedView, spaceOf}
 use Rattle.steps.specs.declared.Session.{Session}
@@ -69,7 +70,7 @@ module _ (image : List ℕ) (session : Session) (c : Container) (o : opened imag
 
   asks : WriteRules (spaceOf c) (stagedView c q) image place bytes
   unfolding stagedView viewIn
-  asks = write-rules image c (guarantees image c o) q (f .there) place bytes (f .allowed)
+  asks = write-rules image c o q (f .there) place bytes (f .allowed)
 
   leaves : Leaves c q place bytes image after
   leaves =
@@ -81,7 +82,7 @@ module _ (image : List ℕ) (session : Session) (c : Container) (o : opened imag
         others = w .others;
         laid = write-bytes (spaceOf c) (stagedView c q) image place bytes asks;
         digests = write-held (spaceOf c) (stagedView c q) image place bytes asks;
-        plain = write-plain (stagedView c q) (asks .rules .rules .hash) image place bytes;
+        plain = write-plain (stagedView c q) (staged (asks .own) .rules .hash) image place bytes;
       }
 
 pub read-back : ReadBack

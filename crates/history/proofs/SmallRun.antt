@@ -208,7 +208,7 @@ module _ (image : List ℕ) (c : Container) (o : opened image ≡ opening.Valid 
   afterWrite = writtenTo view 0 (replicate 32 7) (begunImage c image)
 
   asks : WriteRules (spaceOf c) view (begunImage c image) 0 (replicate 32 7)
-  asks = write-rules (begunImage c image) c (guarantees (begunImage c image) c begun-opens) 0 (s .there) 0 (replicate 32 7) outcome-there
+  asks = write-rules (begunImage c image) c begun-opens 0 (s .there) 0 (replicate 32 7) outcome-there
 
   written-bytes : bytes (contentOf view afterWrite 4) 0 32 ≡ replicate 32 7
   written-bytes =

@@ -94,7 +94,7 @@ module _ (image : List ℕ) (c : Container) (o : opened image ≡ opening.Valid 
 
   write : WriteRules (spaceOf c) (stagedView c q) image place values
   unfolding stagedView viewIn
-  write = write-rules image c g q there place values ok
+  write = write-rules image c o q there place values ok
 
   -- what is written in place is a part of the external level 4
   in-place : (i : ℕ) → update.InPlace (stagedView c q) place (length values) i → InPlace c q place (length values) i

@@ -114,7 +114,7 @@ module _ (image : List ℕ) (c : Container) (g : Guarantees image c) where
     half-space : Keeps (Free (spaceOf c) now) now (begun (treeOf c q) now)
     half-space = tree-keeps (spaceOf c) (treeOf c q) (tree-among image c g q k) now (begun (treeOf c q) now) half-only
 
-  table-space : Keeps (Free (spaceOf c) image) image (tableBegun c image)
+  pub table-space : Keeps (Free (spaceOf c) image) image (tableBegun c image)
   unfolding spaceOf
   table-space = table-keeps (spaceOf c) image (tableBegun c image) table-only
 

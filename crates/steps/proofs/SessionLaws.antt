@@ -97,7 +97,7 @@ module _ (image : List ℕ) (answer : Opened) (a : answer ≡ opened image) (ses
   -- ---- one that does
 
   module _ (c : Container) (e : answer ≡ opening.Valid c) where
-    valid : opened image ≡ opening.Valid c
+    pub valid : opened image ≡ opening.Valid c
     valid = sym a ∙ e
 
     pub guaranteed : Guarantees image c
@@ -217,10 +217,10 @@ module _ (image : List ℕ) (session : Session) (key : List ℕ) (signer : Signe
 
 -- ---- a write to a partition that is there
 
-module _ (image : List ℕ) (c : Container) (g : Guarantees image c) (session : Session) (q : ℕ) (k : q < partitions c) (place : ℕ) (bytes : List ℕ)
+module _ (image : List ℕ) (c : Container) (o : opened image ≡ opening.Valid c) (session : Session) (q : ℕ) (k : q < partitions c) (place : ℕ) (bytes : List ℕ)
     (view : View) (v : view ≡ stagedView c q) where
   pub view-keeps : ViewRules view (length image)
-  view-keeps = rw v (staged-rules image c g q k)
+  view-keeps = rw v (staged-rules image c (guarantees image c o) q k)
 
   module _ (answer : Outcome) (a : answer ≡ writeOutcome view image place (length bytes)) where
     outcome-is : answer ≡ writeOutcome (stagedView c q) image place (length bytes)
@@ -240,7 +240,7 @@ module _ (image : List ℕ) (c : Container) (g : Guarantees image c) (session : 
 
     module _ (f : answer ≡ outcome.Accepted) where
       pub write-asks : (space : Space) → space ≡ spaceOf c → WriteRules space view image place bytes
-      write-asks space s = rw (s, v) (write-rules image c g q k place bytes (sym outcome-is ∙ f))
+      write-asks space s = rw (s, v) (write-rules image c o q k place bytes (sym outcome-is ∙ f))
 
       -- what the write has made, and whether it holds a digest that is all zero
       module _ (left : List ℕ) (zero : Bool) (l : left ≡ writtenTo view place bytes image) (z : zero ≡ holdsZero view place bytes left) where

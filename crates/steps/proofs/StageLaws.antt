@@ -13,35 +13,46 @@ use Rattle.number.specs.Bytes.{copied}
 use Rattle.number.specs.Ranges.{Apart, part}
 use Rattle.number.proofs.ListLaws.{copied-sets, set-sets, length-part}
 use Rattle.number.specs.declared.Range.{Range}
+use Rattle.number.specs.Frame.{Keeps}
+use Rattle.number.proofs.FrameLaws.{keeps-set, keeps-copied}
 use Rattle.layout.specs.declared.Slot.{Slot}
 use Rattle.layout.specs.declared.Partition.{Partition}
 use Rattle.layout.specs.declared.Container.{Container}
 use Rattle.layout.specs.Tables.{active, inactive}
+use Rattle.layout.specs.declared.Opened.the-variants.{Valid}
+use Rattle.layout.specs.Opening.{opened}
 use Rattle.layout.specs.Guarantees.{Guarantees}
+use Rattle.layout.proofs.GuaranteeLaws.{guarantees}
 use Rattle.dpfs.specs.declared.Space.{Space}
 use Rattle.dpfs.specs.Free.{Free}
-use Rattle.dpfs.specs.Rules.{SpaceRules, Among, CopyRules}
+use Rattle.dpfs.specs.Rules.{Among}
 use Rattle.dpfs.specs.Staging.{begun}
-use Rattle.dpfs.proofs.SpaceLaws.{table-free}
+use Rattle.dpfs.proofs.SpaceLaws.{table-free, space-begun}
+use Rattle.stores.specs.Rules.{OwnSpace, CopyRules}
+use Rattle.stores.proofs.OwnLaws.{own-rules, own-kept}
 use Rattle.views.specs.Places.{partitions, slotOf, partitionOf, spaceOf}
-use Rattle.views.proofs.PlaceLaws.{present, active-table, inactive-table, tables-apart, space-rules, first-there}
+use Rattle.views.proofs.PlaceLaws.{present, active-table, inactive-table, tables-apart, first-there}
+use Rattle.views.proofs.OpenLaws.{free-opens}
 use Rattle.steps.specs.Sessions.{selectorPlace, selectorFlipped, stagedTable, tableBegun, begunImage}
-use Rattle.steps.specs.Rules.{PlacedIn}
+use Rattle.steps.proofs.BeginLaws.{table-space}
 
-module _ (image : List ℕ) (c : Container) (g : Guarantees image c) where
+module _ (image : List ℕ) (c : Container) (o : opened image ≡ Valid c) where
+  g : Guarantees image c
+  g = guarantees image c o
+
   -- a selector stands in its table, and is 0 or 1
   pub selector-inside : (q : ℕ) → q < partitions c → selectorPlace (slotOf c q) < inactive (c .header) .size
   selector-inside q k =
       omega (arith, present image c g q k .described .guarantees .difiInside, present image c g q k .slot .descriptorInside, inactive-table image c g .size)
 
-  pub selector-free : (q : ℕ) → q < partitions c → (now : List ℕ) → Free (spaceOf c) now (inactive (c .header) .offset + selectorPlace (slotOf c q))
+  pub selector-free : (q : ℕ) → q < partitions c → Free (spaceOf c) image (inactive (c .header) .offset + selectorPlace (slotOf c q))
   unfolding spaceOf
-  selector-free q k now = table-free (spaceOf c) now _ (omega arith, omega (arith, selector-inside q k))
+  selector-free q k = table-free (spaceOf c) image _ (omega arith, omega (arith, selector-inside q k))
 
   pub table-copy : CopyRules (spaceOf c) image (active (c .header) .offset) (inactive (c .header) .offset) (inactive (c .header) .size)
   unfolding spaceOf
   table-copy = record {
-    rules = space-rules image c g;
+    own = record { container = c; opens = o; same = refl };
     from = omega (arith, active-table image c g .inside, active-table image c g .size, inactive-table image c g .size);
     to = inactive-table image c g .inside;
     apart = orders (tables-apart image c g) (active-table image c g .size) (inactive-table image c g .size);
@@ -53,6 +64,17 @@ module _ (image : List ℕ) (c : Container) (g : Guarantees image c) where
           ⊎ (inactive (c .header) .offset + inactive (c .header) .size ≤ active (c .header) .offset)
       orders (inl h) e f = inl (omega arith)
       orders (inr h) e f = inr h
+
+  -- the image opens as before with the table copied, and with a selector stored
+  pub copied-opens : (after : List ℕ) → after ≡ copied image (active (c .header) .offset) (inactive (c .header) .offset) (inactive (c .header) .size) → opened after ≡ Valid c
+  copied-opens after e =
+      free-opens image after c o
+      (subst (Keeps (Free (spaceOf c) image) image) (sym e) (keeps-copied (Free (spaceOf c) image) image _ _ _ (table-copy .free)))
+
+  pub flipped-opens : (q : ℕ) → q < partitions c → (value : ℕ) (after : List ℕ) → after ≡ set image (inactive (c .header) .offset + selectorPlace (slotOf c q)) value
+      → opened after ≡ Valid c
+  flipped-opens q k value after e =
+      free-opens image after c o (subst (Keeps (Free (spaceOf c) image) image) (sym e) (keeps-set (Free (spaceOf c) image) image _ value (selector-free q k)))
 
   whole : length (part image (active (c .header))) ≡ inactive (c .header) .size
   unfolding part
@@ -112,47 +134,51 @@ module _ (image : List ℕ) (c : Container) (g : Guarantees image c) where
 -- ---- as the functions cite them
 
 -- one selector: the values that the code has are those of the definitions
-module _ (c : Container) (n q : ℕ) (p : PlacedIn c n) (k : q < partitions c) (to : Range) (slot : Slot) (t : to ≡ inactive (c .header)) (s : slot ≡ slotOf c q) where
-  small : n ≤ 0x4000000
-  small = omega (arith, p .guarantees .longest, p .size)
+module _ (image : List ℕ) (c : Container) (o : opened image ≡ Valid c) (q : ℕ) (k : q < partitions c) where
+  module _ (to : Range) (slot : Slot) (t : to ≡ inactive (c .header)) (s : slot ≡ slotOf c q) where
+    inside : inactive (c .header) .offset + selectorPlace (slotOf c q) < length image
+    inside = omega (arith, selector-inside image c o q k, inactive-table image c (guarantees image c o) .inside)
 
-  inside : inactive (c .header) .offset + selectorPlace (slotOf c q) < n
-  inside = omega (arith, selector-inside (p .image) c (p .guarantees) q k, inactive-table (p .image) c (p .guarantees) .inside, p .size)
+    flip-inside : to .offset + (slot .descriptor .offset + 0x39) < length image
+    flip-inside = rw (t, s) inside
 
-  pub flip-inside : to .offset + (slot .descriptor .offset + 0x39) < n
-  flip-inside = rw (t, s) inside
+    pub flip-small : to .offset + (slot .descriptor .offset + 0x39) < 0x4000000
+    flip-small = omega (arith, flip-inside, guarantees image c o .longest)
 
-  pub flip-small : to .offset + (slot .descriptor .offset + 0x39) < 0x4000000
-  flip-small = omega (arith, flip-inside, small)
+    pub flip-asks : (space : Space) → space ≡ spaceOf c
+        → (OwnSpace space image) × (Free space image (to .offset + (slot .descriptor .offset + 0x39))) × (to .offset + (slot .descriptor .offset + 0x39) < length image)
+    flip-asks space e = (record { container = c; opens = o; same = e }, rw (e, t, s) (selector-free image c o q k), flip-inside)
 
-  pub flip-asks : (space : Space) → space ≡ spaceOf c → (image : List ℕ) → length image ≡ n
-      → (Free space image (to .offset + (slot .descriptor .offset + 0x39))) × (to .offset + (slot .descriptor .offset + 0x39) < length image)
-  flip-asks space e image l = rw (e, t, s, l) (selector-free (p .image) c (p .guarantees) q k image, inside)
+    pub flip-done : (partition : Partition) → partition ≡ partitionOf c q → (after : List ℕ)
+        → after ≡ set image (to .offset + (slot .descriptor .offset + 0x39)) (1 - partition .difi .selector)
+        → after ≡ set image (inactive (c .header) .offset + selectorPlace (slotOf c q)) (1 - partitionOf c q .difi .selector)
+    flip-done partition e after f = rw (← t, ← s, ← e) f
 
-  pub flip-done : (partition : Partition) → partition ≡ partitionOf c q → (image after : List ℕ)
-      → after ≡ set image (to .offset + (slot .descriptor .offset + 0x39)) (1 - partition .difi .selector)
-      → after ≡ set image (inactive (c .header) .offset + selectorPlace (slotOf c q)) (1 - partitionOf c q .difi .selector)
-  flip-done partition e image after f = rw (← t, ← s, ← e) f
+  pub selector-bit : (partition : Partition) → partition ≡ partitionOf c q → partition .difi .selector ≤ 1
+  selector-bit partition e = rw e (present image c (guarantees image c o) q k .described .guarantees .selector)
 
-pub selector-bit : (c : Container) (n q : ℕ) → PlacedIn c n → q < partitions c → (partition : Partition) → partition ≡ partitionOf c q → partition .difi .selector ≤ 1
-selector-bit c n q p k partition e = rw e (present (p .image) c (p .guarantees) q k .described .guarantees .selector)
-
--- the container of an image is one of every image of its length
-pub placed-in : (image : List ℕ) (n : ℕ) (c : Container) → Guarantees image c → n ≡ length image → PlacedIn c n
-placed-in image n c g e = record { image = image; size = sym e; guarantees = g }
-
-pub copy-asks : (image : List ℕ) (c : Container) → Guarantees image c → (space : Space) → space ≡ spaceOf c → (from to : Range) → from ≡ active (c .header) → to ≡ inactive (c .header)
+pub copy-asks : (image : List ℕ) (c : Container) → opened image ≡ Valid c → (space : Space) → space ≡ spaceOf c → (from to : Range) → from ≡ active (c .header) → to ≡ inactive (c .header)
     → CopyRules space image (from .offset) (to .offset) (to .size)
-copy-asks image c g space e from to f t = rw (e, f, t) (table-copy image c g)
+copy-asks image c o space e from to f t = rw (e, f, t) (table-copy image c o)
 
 pub copy-done : (image after : List ℕ) (c : Container) (from to : Range) → from ≡ active (c .header) → to ≡ inactive (c .header)
     → after ≡ copied image (from .offset) (to .offset) (to .size) → after ≡ copied image (active (c .header) .offset) (inactive (c .header) .offset) (inactive (c .header) .size)
 copy-done image after c from to f t e = rw (← f, ← t) e
 
 -- the trees of the space
-module _ (image : List ℕ) (c : Container) (g : Guarantees image c) (space : Space) (e : space ≡ spaceOf c) where
-  pub space-asks : (n : ℕ) → n ≡ length image → SpaceRules space n
-  space-asks n l = rw (e, l) (space-rules image c g)
+module _ (image : List ℕ) (c : Container) (o : opened image ≡ Valid c) (space : Space) (e : space ≡ spaceOf c) where
+  -- the space is the image's own with the table staged, and with the first half staged
+  pub table-own : (table : List ℕ) → table ≡ tableBegun c image → OwnSpace space table
+  table-own table t = record {
+    container = c;
+    opens = free-opens image table c o (subst (Keeps (Free (spaceOf c) image) image) (sym t) (table-space image c (guarantees image c o)));
+    same = e;
+  }
+
+  pub first-own : (table first : List ℕ) → table ≡ tableBegun c image → first ≡ begun (space .a) table → OwnSpace space first
+  first-own table first t f =
+      let h = table-own table t in
+      own-kept space table h first (subst (Keeps (Free space table) table) (sym f) (space-begun space (space .a) table (own-rules space table h) (inl refl)))
 
   pub second-among : c .header .count ≡ 2 → Among (space .b) space
   unfolding spaceOf

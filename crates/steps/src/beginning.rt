@@ -1,26 +1,26 @@
 // Begin's stores: the inactive table, and each partition's other half of level 1.
 use super::staleness::SELECTOR;
 use dpfs::Space;
-use dpfs::staging::begin_tree;
-use dpfs::staging::copy_within;
-use dpfs::staging::store;
 use layout::Container;
 use layout::tables::active_range;
 use layout::tables::inactive_range;
+use stores::staging::begin_tree;
+use stores::staging::copy_within;
+use stores::staging::store;
 use views::places::partition_of;
 use views::places::slot_of;
 ghost use mathlib.Core.Path.{_≡_};
 ghost use Prim.Native.Nat.{ℕ, _+_, _-_, _<_};
-ghost use lib.ListN.{length, set};
+ghost use lib.ListN.{set};
 ghost use Rattle.layout.specs.Tables.{inactive};
-ghost use Rattle.layout.specs.Guarantees.{Guarantees};
+ghost use Rattle.layout.specs.declared.Opened.the-variants.{Valid};
+ghost use Rattle.layout.specs.Opening.{opened};
 ghost use Rattle.views.specs.Places.{partitions, slotOf, partitionOf, spaceOf};
 ghost use Rattle.steps.specs.Sessions.{selectorPlace, tableBegun, begunImage};
-ghost use Rattle.steps.specs.Rules.{PlacedIn};
 
 // Stores a partition's selector, flipped, into the inactive table.
 fn flip_selector(space: Space, c: Container, q: u64, image: &mut [u8])
-    requires { ⌜ (space ≡ spaceOf c) × (PlacedIn c (length (now image))) × (q < partitions c) ⌝ }
+    requires { ⌜ (space ≡ spaceOf c) × (opened (now image) ≡ Valid c) × (q < partitions c) ⌝ }
     ensures { λ _. ⌜ now (image .exit) ≡ set (now (image .entry)) (inactive (c .header) .offset + selectorPlace (slotOf c q)) (1 - partitionOf c q .difi .selector) ⌝ }
 {
     let place = inactive_range(c.header).offset + (slot_of(c, q).descriptor.offset + SELECTOR);
@@ -29,7 +29,7 @@ fn flip_selector(space: Space, c: Container, q: u64, image: &mut [u8])
 
 // The inactive table becomes the active one with each partition's selector flipped.
 fn stage_table(space: Space, c: Container, image: &mut [u8])
-    requires { ⌜ (space ≡ spaceOf c) × (Guarantees (now image) c) ⌝ }
+    requires { ⌜ (space ≡ spaceOf c) × (opened (now image) ≡ Valid c) ⌝ }
     ensures { λ _. ⌜ now (image .exit) ≡ tableBegun c (now (image .entry)) ⌝ }
 {
     let from = active_range(c.header);
@@ -43,7 +43,7 @@ fn stage_table(space: Space, c: Container, image: &mut [u8])
 
 // And each partition's other half of level 1 becomes a copy of the live half.
 pub fn stage_image(space: Space, c: Container, image: &mut [u8])
-    requires { ⌜ (space ≡ spaceOf c) × (Guarantees (now image) c) ⌝ }
+    requires { ⌜ (space ≡ spaceOf c) × (opened (now image) ≡ Valid c) ⌝ }
     ensures { λ _. ⌜ now (image .exit) ≡ begunImage c (now (image .entry)) ⌝ }
 {
     stage_table(space, c, image);

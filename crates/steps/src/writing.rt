@@ -12,7 +12,8 @@ use views::places::staged_view;
 ghost use mathlib.Core.Path.{_≡_};
 ghost use mathlib.Core.Bool.{cond};
 ghost use Prim.Native.Nat.{_<_};
-ghost use Rattle.layout.specs.Guarantees.{Guarantees};
+ghost use Rattle.layout.specs.declared.Opened.the-variants.{Valid};
+ghost use Rattle.layout.specs.Opening.{opened};
 ghost use Rattle.views.specs.Places.{partitions};
 ghost use Rattle.steps.specs.Sessions.{idle};
 ghost use Rattle.steps.specs.Calls as calls;
@@ -64,7 +65,7 @@ pub fn write_partition(
     place: u64,
     bytes: &[u8],
 ) -> Step
-    requires { ⌜ (Guarantees (now image) c) × (q < partitions c) ⌝ }
+    requires { ⌜ (opened (now image) ≡ Valid c) × (q < partitions c) ⌝ }
     ensures { λ r. ⌜ Stepped r (now (image .exit)) (calls.writeTo c (now (image .entry)) session q place (now (bytes .entry))) ⌝ }
 {
     let view = staged_view(c, q);

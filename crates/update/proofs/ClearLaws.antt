@@ -1,5 +1,5 @@
 -- What the functions that empty hash blocks, and look for zeros, ask of each other, and their steps. Assumes nothing.
-use mathlib.Core.Path.{_≡_, refl, sym, ap, _∙_}
+use mathlib.Core.Path.{_≡_, refl, sym, ap, _∙_, subst}
 use mathlib.Core.List.{List}
 use mathlib.Core.Bool.{Bool, true, false, _||_, cond}
 use mathlib.Core.Logic.{inl, inr}
@@ -13,6 +13,7 @@ use Rattle.number.specs.declared.Level.{Level}
 use Rattle.number.specs.Blocks.{blockSize, blocks, blockLength}
 use Rattle.number.specs.Bytes.{bytes}
 use Rattle.number.proofs.Tests.{and-right}
+use Rattle.number.specs.Frame.{Keeps}
 use Rattle.number.proofs.FrameLaws.{keeps-refl}
 use Rattle.dpfs.specs.declared.Space.{Space}
 use Rattle.ivfc.specs.declared.View.{View}
@@ -24,8 +25,10 @@ use Rattle.ivfc.proofs.EntryLaws.{block-cong, entry-cong, parent-mono}
 use Rattle.ivfc.proofs.VerifiedLaws.{entry-inside, parent-above, verified-step}
 use Rattle.update.specs.Writing.{emptied, cleared, zeroAmong, zeroHeld}
 use Rattle.update.specs.Staged.{putLevel}
-use Rattle.update.specs.Rules.{StagedRules}
-use Rattle.update.proofs.ImageLaws.{Own, level-append, staged-store}
+use Rattle.update.specs.Rules.{StagedRules, StagedIn}
+use Rattle.update.proofs.StagedLaws.{Own, staged, staged-kept}
+use Rattle.update.proofs.ImageLaws.{level-append, staged-store}
+use Rattle.update.proofs.CodeLaws.{put-kept}
 use Rattle.update.proofs.EmptyLaws.{emptied-split, emptied-cong, emptied-none, emptied-ok, emptied-else, emptied-out, Cleared, cleared-is}
 
 -- ---- zeros put one run after another
@@ -109,10 +112,6 @@ module _ (view : View) (stands : ℕ → Bool) (i b : ℕ) (image : List ℕ) wh
   one-emptied e = rw e
 
 module _ (space : Space) (view : View) (image : List ℕ) (r : StagedRules space view (length image)) where
-  pub length-emptied : (i : ℕ) → i ≤ 4 → (stands : ℕ → Bool) (p n : ℕ) → p + n ≤ blocks (levelOf view i) → length (allEmptied view stands i p n image) ≡ length image
-  length-emptied i h stands p n fit =
-      emptied-ok (r .rules .hash) (staged-store space view (length image) r image refl) stands i h p n image fit (keeps-refl (Own view image) image) .size
-
   -- a block behind them matches as before
   matches-behind : (j : ℕ) → suc j ≤ 4 → (stands : ℕ → Bool) (p n b : ℕ) → p + n ≤ b → b < blocks (levelOf view (suc j))
       → matches view (allEmptied view stands (suc j) p n image) (suc j) b ≡ matches view image (suc j) b
@@ -150,6 +149,18 @@ module _ (space : Space) (view : View) (image : List ℕ) (r : StagedRules space
     where
       alike : (a : ℕ) → a ≡ b → matches view (allEmptied view (matches view image i) i from (b - from) image) i a ≡ matches view image i a
       alike a w = emptied-matches i some h (matches view image i) from (b - from) a (omega arith) (omega arith)
+
+-- what is left then has the same space and staged view
+module _ {space : Space} {view : View} {image : List ℕ} (h : StagedIn space view image) where
+  pub zeros-kept : (i x n : ℕ) (after : List ℕ) → i ≤ 4 → x + n ≤ levelOf view i .size → after ≡ putLevel view i x (replicate n 0) image → StagedIn space view after
+  zeros-kept i x n after l fit e = put-kept h i x (replicate n 0) after l (rw (length-replicate {A = ℕ} n 0) fit) e
+
+  pub emptied-kept : (i : ℕ) → i ≤ 4 → (stands : ℕ → Bool) (p n : ℕ) → p + n ≤ blocks (levelOf view i) → (after : List ℕ)
+      → after ≡ allEmptied view stands i p n image → StagedIn space view after
+  emptied-kept i l stands p n fit after e =
+      staged-kept h after
+      (subst (Keeps (Own view image) image) (sym e)
+      (emptied-ok (staged h .rules .hash) (staged-store space view (length image) (staged h) image refl) stands i l p n image fit (keeps-refl (Own view image) image)))
 
 -- none of nothing
 pub level-none : (view : View) (stands : ℕ → Bool) (i from b : ℕ) (image : List ℕ) → b ≡ from → image ≡ allEmptied view stands i from (b - from) image
@@ -235,12 +246,17 @@ module _ (space : Space) (view : View) (image : List ℕ) (r : StagedRules space
   is-cleared : Cleared (r .rules .hash) (staged-store space view (length image) r image refl) image i first last (allCleared view i first last image)
   is-cleared = cleared-is (r .rules .hash) (staged-store space view (length image) r image refl) image (keeps-refl (Own view image) image) i first last h o e
 
-  pub length-cleared : length (allCleared view i first last image) ≡ length image
-  length-cleared = is-cleared .ok .size
+  cleared-keeps : Keeps (Own view image) image (allCleared view i first last image)
+  cleared-keeps = is-cleared .ok
 
   -- then an entry's match decides
   pub cleared-judged : (b : ℕ) → first ≤ b → b ≤ last → matches view (allCleared view i first last image) i b ≡ verified view image i b
   cleared-judged = is-cleared .judged
+
+pub cleared-kept : {space : Space} {view : View} {image : List ℕ} → StagedIn space view image → (i first last : ℕ) → i ≤ 4 → first ≤ last
+    → last < blocks (levelOf view i) → (after : List ℕ) → after ≡ allCleared view i first last image → StagedIn space view after
+cleared-kept {space} {view} {image} h i first last l o e after q =
+    staged-kept h after (subst (Keeps (Own view image) image) (sym q) (cleared-keeps space view image (staged h) i first last l o e))
 
 -- one level more
 pub clear-step : (space : Space) (view : View) (image : List ℕ) → StagedRules space view (length image) → (i first last p q : ℕ) (front back : Bool)

@@ -1,5 +1,5 @@
 -- What the functions of a write ask of each other, and their steps. Assumes nothing.
-use mathlib.Core.Path.{_≡_, refl, sym, ap, _∙_}
+use mathlib.Core.Path.{_≡_, refl, sym, ap, _∙_, subst}
 use mathlib.Core.List.{List, [], _∷_}
 use mathlib.Core.Bool.{Bool, true, false, not, _&&_, cond, true≢false}
 use Prim.Native.Nat.{ℕ, zero, suc, _+_, _-_, _*_, _≤_, _<_}
@@ -11,6 +11,7 @@ use borrow.Author.Tests.{eqb-true}
 use Rattle.number.proofs.Tests.{and-left, and-right}
 use Rattle.number.specs.declared.Level.{Level}
 use Rattle.number.specs.Blocks.{blocks, blockOf, lastBlock}
+use Rattle.number.specs.Frame.{Keeps}
 use Rattle.number.proofs.FrameLaws.{keeps-refl}
 use Rattle.number.proofs.Tests.{failed}
 use Rattle.number.proofs.BlockLaws.{block-exists, block-mono, touches-in}
@@ -23,13 +24,14 @@ use Rattle.ivfc.specs.Blocks.{parent}
 use Rattle.ivfc.specs.Rows.{digests}
 use Rattle.ivfc.specs.Rules.{ViewRules}
 use Rattle.ivfc.specs.Views.{levelOf, contentOf, verified}
-use Rattle.ivfc.proofs.ViewLaws.{level-zero, inside-master, inside-inner, level-small, inner-test, inside-outer}
+use Rattle.ivfc.proofs.ViewLaws.{level-zero, inside-master, inside-inner, level-small, inner-test}
 use Rattle.ivfc.proofs.VerifiedLaws.{entry-above}
 use Rattle.update.specs.Covering.{covered}
 use Rattle.update.specs.Writing.{cleared, entered, rehashed, written, zeroHeld}
 use Rattle.update.specs.Staged.{putLevel, writtenTo, holdsZero, outer}
-use Rattle.update.specs.Rules.{StagedRules, WriteRules, EndsRules}
-use Rattle.update.proofs.ImageLaws.{Own, master-in-table, master-keeps, inner-keeps, staged-store, outer-keeps}
+use Rattle.update.specs.Rules.{StagedRules, OwnView, StagedIn, WriteRules, EndsRules}
+use Rattle.update.proofs.StagedLaws.{Own, view-placed, staged, staged-kept}
+use Rattle.update.proofs.ImageLaws.{master-in-table, staged-store}
 use Rattle.update.proofs.StoreLaws.{entered-ok, entered-split, entered-at-once}
 
 -- ---- bytes put into a level
@@ -72,22 +74,29 @@ module _ (space : Space) (view : View) (image : List ℕ) (r : StagedRules space
   pub inner-ends : i ≤ 4 → (i ≡ 0 → ⊥) → eqb i 4 && view .external ≡ false → levelOf view i .offset + x + n ≤ view .tree .level3 .size
   inner-ends h ne e = omega (arith, inside-inner view (length image) (r .rules) i (omega arith) h (inner-test i (view .external) e))
 
-  -- into an external level 4
-  pub outer-ends : eqb i 4 && view .external ≡ true → (view .external ≡ true) × (view .outside + x + n ≤ length image)
-  outer-ends e =
-      let f = and-right (eqb i 4) (view .external) e in
-      (f, omega (arith, inside-outer view (length image) (r .rules) i (eqb-true i 4 (and-left (eqb i 4) (view .external) e)) f))
+-- into an external level 4
+pub outer-external : (view : View) (i : ℕ) → eqb i 4 && view .external ≡ true → view .external ≡ true
+outer-external view i e = and-right (eqb i 4) (view .external) e
 
-pub length-put : (space : Space) (view : View) (image : List ℕ) → StagedRules space view (length image) → (i x : ℕ) (values : List ℕ) → i ≤ 4
-    → x + length values ≤ levelOf view i .size → length (putLevel view i x values image) ≡ length image
-unfolding putLevel levelOf
-length-put space view image r zero x values h fit = master-keeps space view (length image) r image refl x values fit .size
-length-put space view image r (suc i) x values h fit = by (outer view (suc i)) refl
-  where
-    by : (t : Bool) → outer view (suc i) ≡ t
-        → length (cond t (sets image (view .outside + x) values) (dpfs.put (view .tree) (levelOf view (suc i) .offset + x) values image)) ≡ length image
-    by true e = outer-keeps space view (length image) r image refl x values i e fit .size
-    by false e = inner-keeps space view (length image) r image refl x values i h e fit .size
+pub outer-fits : (view : View) (i x n : ℕ) → eqb i 4 && view .external ≡ true → x + n ≤ levelOf view i .size → x + n ≤ view .level4 .size
+unfolding levelOf
+outer-fits view i x n e fit =
+    let four : i ≡ 4 = eqb-true i 4 (and-left (eqb i 4) (view .external) e) in
+    let size : levelOf view i .size ≡ view .level4 .size = ap (λ (j : ℕ). levelOf view j .size) four in
+    omega arith
+
+-- such bytes end in the image
+pub ends : {view : View} {image : List ℕ} → OwnView view image → (x n : ℕ) → view .external ≡ true → x + n ≤ view .level4 .size
+    → (view .outside + x + n ≤ length image) × (length image ≤ 0x4000000)
+ends h x n e fit = (omega (arith, view-placed h .outer4 e), view-placed h .tree .limit)
+
+-- what a put, and each step of a write, leaves has the same space and staged view
+module _ {space : Space} {view : View} {image : List ℕ} (h : StagedIn space view image) where
+  pub put-kept : (i x : ℕ) (values after : List ℕ) → i ≤ 4 → x + length values ≤ levelOf view i .size → after ≡ putLevel view i x values image → StagedIn space view after
+  put-kept i x values after l fit e =
+      staged-kept h after
+      (subst (Keeps (Own view image) image) (sym e)
+      (staged-store space view (length image) (staged h) image refl .stays i x values image (keeps-refl (Own view image) image) l fit))
 
 -- ---- the entries of an interval, some at a time
 
@@ -124,13 +133,17 @@ module _ (space : Space) (view : View) (image : List ℕ) (r : StagedRules space
   pub some-inside : 32 * b + 32 * n ≤ levelOf view i .size
   some-inside = omega (arith, r .rules .hash .enough i h)
 
-  pub length-some : length (entered (levelOf view) (contentOf view) (putLevel view) i b n image) ≡ length image
-  length-some =
-      entered-ok (r .rules .hash) (staged-store space view (length image) r image refl) i h b n image e (keeps-refl (Own view image) image) .size
+module _ {space : Space} {view : View} {image : List ℕ} (h : StagedIn space view image) where
+  pub some-keeps : (i b n : ℕ) → i < 4 → b + n ≤ blocks (levelOf view (suc i)) → (now after : List ℕ) → Keeps (Own view image) image now
+      → after ≡ entered (levelOf view) (contentOf view) (putLevel view) i b n now → Keeps (Own view image) image after
+  some-keeps i b n l e now after k q =
+      subst (Keeps (Own view image) image) (sym q)
+      (entered-ok (staged h .rules .hash) (staged-store space view (length image) (staged h) image refl) i l b n now e k)
 
-pub length-entered : (space : Space) (view : View) (image : List ℕ) → StagedRules space view (length image) → (i first last : ℕ) → i < 4
-    → first ≤ last → last < blocks (levelOf view (suc i)) → length (entriesFrom view i last first image) ≡ length image
-length-entered space view image r i first last h o e = length-some space view image r i first (suc last - first) h (omega arith)
+  pub entered-kept : (i first last : ℕ) → i < 4 → first ≤ last → last < blocks (levelOf view (suc i)) → (after : List ℕ) → after ≡ entriesFrom view i last first image
+      → StagedIn space view after
+  entered-kept i first last l o e after q =
+      staged-kept h after (some-keeps i first (suc last - first) l (omega arith) image after (keeps-refl (Own view image) image) q)
 
 -- ---- level by level
 
@@ -179,7 +192,7 @@ module _ (space : Space) (view : View) (image : List ℕ) (x : ℕ) (values : Li
   write-fits = w .fits
 
   pub write-small : x + length values ≤ 0x4000000
-  write-small = omega (arith, write-fits, level-small view (length image) (w .rules .rules) 4 (omega arith))
+  write-small = omega (arith, write-fits, level-small view (length image) (staged (w .own) .rules) 4 (omega arith))
 
 module _ (view : View) (x : ℕ) (values image : List ℕ) where
   pub write-none : length values ≡ 0 → writtenTo view x values image ≡ image
@@ -267,7 +280,7 @@ pub write-ends : (space : Space) (view : View) (image : List ℕ) (x : ℕ) (val
     → EndsRules space view image x (length values) first last
 unfolding levelOf lastBlock
 write-ends space view image x values w some first last f l = record {
-  rules = w .rules;
+  own = w .own;
   some = some;
   fits = w .fits;
   start = f;

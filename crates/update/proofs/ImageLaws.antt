@@ -39,6 +39,7 @@ use Rattle.ivfc.proofs.ViewLaws.{content-inner, inside-inner, inner-test}
 use Rattle.update.specs.Writing.{zeroHeld, Held}
 use Rattle.update.specs.Staged.{putLevel, writtenTo, plainlyWritten, holdsZero, outer}
 use Rattle.update.specs.Rules.{StagedRules, WriteRules, outerRange, InPlace}
+use Rattle.update.proofs.StagedLaws.{OuterByte, Own, staged}
 use Rattle.update.proofs.StoreLaws.{Store}
 use Rattle.update.proofs.PlainLaws.{written-plain}
 use Rattle.update.proofs.WriteLaws.{Written, written-is}
@@ -130,14 +131,7 @@ level-append view (suc i) x before rest image = by (outer view (suc i))
         ∙ ap (λ (z : ℕ). dpfs.put (view .tree) z rest (dpfs.put (view .tree) (levelOf view (suc i) .offset + x) before image))
         (add-assoc (levelOf view (suc i) .offset) x (length before))
 
--- ---- the bytes that a write may change: the view's master hash, what is free in its own tree, and an external level 4
-
--- the bytes of an external level 4
-abbrev pub OuterByte : View → (i : ℕ) → Type 0
-OuterByte view i = (view .external ≡ true) × InRange (outerRange view) i
-
-abbrev pub Own : View → List ℕ → (i : ℕ) → Type 0
-Own view image i = InRange (view .master) i ⊎ (FreeIn (view .tree) image i ⊎ OuterByte view i)
+-- ---- the bytes that a write may change
 
 avoids-less : {F G : ℕ → Type 0} {tree : Tree} → ((i : ℕ) → F i → G i) → Avoids G tree → Avoids F tree
 avoids-less s a = record {
@@ -417,13 +411,16 @@ write-plain view rules image x [] h v = absurd (omega arith)
 write-plain view rules image x (value ∷ values) h v = written-plain (levelOf view) rules (contentOf view) (putLevel view) image 3 x value values (omega arith) v
 
 module _ (space : Space) (view : View) (image : List ℕ) (x : ℕ) (values : List ℕ) (w : WriteRules space view image x values) where
+  rules : StagedRules space view (length image)
+  rules = staged (w .own)
+
   abbrev after : List ℕ
   after = writtenTo view x values image
 
-  is-written : Written (w .rules .rules .hash) (staged-store space view (length image) (w .rules) image refl) 4 x values image (writtenTo view x values image)
+  is-written : Written (rules .rules .hash) (staged-store space view (length image) rules image refl) 4 x values image (writtenTo view x values image)
   unfolding writtenTo levelOf
   is-written =
-      written-is (w .rules .rules .hash) (staged-store space view (length image) (w .rules) image refl) 3 x values image
+      written-is (rules .rules .hash) (staged-store space view (length image) rules image refl) 3 x values image
       (keeps-refl (Own view image) image) (omega arith) (w .fits)
 
   -- nothing but the write's own bytes changes
@@ -487,8 +484,8 @@ module _ (space : Space) (view : View) (image : List ℕ) (x : ℕ) (values : Li
   write-stores = record { size = write-own .size; bytes = λ i n. by i n (outer-or-not i) }
     where
       own-not : (i : ℕ) → (Stored i → ⊥) → (OuterByte view i → ⊥) → Own view image i → ⊥
-      own-not i n o (inl f) = n (inl (table-free space image i (master-in-table space view (length image) (w .rules) i f)))
-      own-not i n o (inr (inl f)) = n (inl (tree-free space (view .tree) (w .rules .among) image i f))
+      own-not i n o (inl f) = n (inl (table-free space image i (master-in-table space view (length image) rules i f)))
+      own-not i n o (inr (inl f)) = n (inl (tree-free space (view .tree) (rules .among) image i f))
       own-not i n o (inr (inr f)) = o f
 
       by : (i : ℕ) → (Stored i → ⊥) → Dec (OuterByte view i) → getD after i 0 ≡ getD image i 0
@@ -498,8 +495,8 @@ module _ (space : Space) (view : View) (image : List ℕ) (x : ℕ) (values : Li
   -- the live content of each tree stays
   pub write-live : (tree : Tree) → Among tree space → (z : ℕ) → z < tree .level3 .size → content tree after (tree .live) z ≡ content tree image (tree .live) z
   write-live tree m =
-      spared-content tree (length image) (among-placed space (length image) (w .rules .places) tree m) Stored image after
-      (spares-or (space-spares space (length image) (w .rules .places) tree m image) (avoids-spares image (avoids-less in-outer (outer-avoids space view (length image) (w .rules) tree m))))
+      spared-content tree (length image) (among-placed space (length image) (rules .places) tree m) Stored image after
+      (spares-or (space-spares space (length image) (rules .places) tree m image) (avoids-spares image (avoids-less in-outer (outer-avoids space view (length image) rules tree m))))
       write-stores
     where
       in-outer : (i : ℕ) → InPlace view x (length values) i → OuterByte view i
@@ -509,13 +506,13 @@ module _ (space : Space) (view : View) (image : List ℕ) (x : ℕ) (values : Li
   pub write-other : (tree : Tree) → Among tree space → Aside tree (view .tree)
       → (half : Bool) (z : ℕ) → z < tree .level3 .size → content tree after half z ≡ content tree image half z
   write-other tree m s half =
-      avoided-content tree (length image) (among-placed space (length image) (w .rules .places) tree m) (Own view image) image after
-      (avoids-or (master-avoids space view (length image) (w .rules) tree m)
-      (avoids-or (aside-avoids tree (view .tree) image s) (outer-avoids space view (length image) (w .rules) tree m))) write-own half
+      avoided-content tree (length image) (among-placed space (length image) (rules .places) tree m) (Own view image) image after
+      (avoids-or (master-avoids space view (length image) rules tree m)
+      (avoids-or (aside-avoids tree (view .tree) image s) (outer-avoids space view (length image) rules tree m))) write-own half
 
   -- of the inactive table, only the view's master hash changes
   pub write-table : (i : ℕ) → InRange (space .table) i → (InRange (view .master) i → ⊥) → getD after i 0 ≡ getD image i 0
   write-table i h o =
       write-own .bytes i
-      (⊎-elim o (⊎-elim (λ f. avoids-free (view .tree) image (table-avoids space (length image) (w .rules .places) (view .tree) (w .rules .among)) i f h)
-      (λ f. outer-table space view (length image) (w .rules) i f h)))
+      (⊎-elim o (⊎-elim (λ f. avoids-free (view .tree) image (table-avoids space (length image) (rules .places) (view .tree) (rules .among)) i f h)
+      (λ f. outer-table space view (length image) rules i f h)))

@@ -1,6 +1,7 @@
 pub mod StoreLaws
 pub mod EmptyLaws
 pub mod WriteLaws
+pub mod StagedLaws
 pub mod ImageLaws
 pub mod JudgeLaws
 pub mod CodeLaws

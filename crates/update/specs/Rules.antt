@@ -1,18 +1,23 @@
--- What a write asks of the image's space and of the staged view; those of an image that opens keep to it.
+-- What a write asks: the space and the staged view are those of the image itself, and the rules that these keep to.
 use mathlib.Core.Path.{_≡_}
 use mathlib.Core.List.{List}
 use mathlib.Core.Bool.{true, false, not}
 use Prim.Native.Nat.{ℕ, _+_, _≤_, _<_}
 use lib.ListN.{length}
 use Rattle.number.specs.Blocks.{blockOf, lastBlock, touches}
-use Rattle.dpfs.specs.declared.Space.{Space}
 use Rattle.number.specs.declared.Range.{Range}
 use Rattle.number.specs.Ranges.{Apart}
+use Rattle.layout.specs.declared.Container.{Container}
+use Rattle.layout.specs.declared.Opened.the-variants.{Valid}
+use Rattle.layout.specs.Opening.{opened}
+use Rattle.dpfs.specs.declared.Space.{Space}
 use Rattle.dpfs.specs.Free.{InRange}
 use Rattle.dpfs.specs.Rules.{SpaceRules, Among, BeyondAll}
 use Rattle.ivfc.specs.declared.View.{View}
 use Rattle.ivfc.specs.Rules.{ViewRules, LevelsApart}
 use Rattle.ivfc.specs.Views.{verified}
+use Rattle.views.specs.Places.{partitions, stagedView}
+use Rattle.stores.specs.Rules.{OwnSpace}
 use Rattle.update.specs.Covering.{covered}
 
 -- where an external level 4 stands
@@ -40,16 +45,29 @@ pub record StagedRules (space : Space) (view : View) (n : ℕ) : Type 0 where
   pub master-from : space .table .offset ≤ view .master .offset
   pub master-to : view .master .offset + view .master .size ≤ space .table .offset + space .table .size
 
+-- the image opens, and the view is the staged one of a partition of the container that it opens as
+pub record OwnView (view : View) (image : List ℕ) : Type 0 where
+  pub container : Container
+  pub partition : ℕ
+  pub there : partition < partitions container
+  pub opens : opened image ≡ Valid container
+  pub same : view ≡ stagedView container partition
+
+-- and the space is that container's; both then keep to StagedRules
+pub record StagedIn (space : Space) (view : View) (image : List ℕ) : Type 0 where
+  pub places : OwnSpace space image
+  pub seen : OwnView view image
+
 -- bytes written to its level 4 from x on: each block that they touch is covered in full, or verified
 pub record WriteRules (space : Space) (view : View) (image : List ℕ) (x : ℕ) (values : List ℕ) : Type 0 where
-  pub rules : StagedRules space view (length image)
+  pub own : StagedIn space view image
   pub fits : x + length values ≤ view .level4 .size
   pub judged : (b : ℕ) → touches (view .level4) x (length values) b ≡ true → covered (view .level4) x (length values) b ≡ false
       → verified view image 4 b ≡ true
 
 -- n bytes, at least one, of which `first` and `last` are the blocks of the first and the last: each of the two is covered in full, or verified
 pub record EndsRules (space : Space) (view : View) (image : List ℕ) (x n first last : ℕ) : Type 0 where
-  pub rules : StagedRules space view (length image)
+  pub own : StagedIn space view image
   pub some : 0 < n
   pub fits : x + n ≤ view .level4 .size
   pub start : first ≡ blockOf (view .level4) x

@@ -19,14 +19,14 @@ ghost use Rattle.ivfc.specs.Views.{levelOf, contentOf, matches, verified};
 ghost use Rattle.update.specs.Covering.{covered};
 ghost use Rattle.update.specs.Writing.{emptied, cleared};
 ghost use Rattle.update.specs.Staged.{putLevel};
-ghost use Rattle.update.specs.Rules.{StagedRules, WriteRules, EndsRules};
+ghost use Rattle.update.specs.Rules.{StagedIn, EndsRules};
 
 // How many zeros are put at once.
 const ZEROS: u64 = 64;
 
 // Puts n zeros into a level of the staged view from x on.
 fn put_zeros(space: Space, view: View, image: &mut [u8], i: u64, x: u64, n: u64)
-    requires { ⌜ (StagedRules space view (length (now image))) × (i ≤ 4) × (x + n ≤ levelOf view i .size) ⌝ }
+    requires { ⌜ (StagedIn space view (now image)) × (i ≤ 4) × (x + n ≤ levelOf view i .size) ⌝ }
     ensures { λ _. ⌜ now (image .exit) ≡ putLevel view i x (replicate n 0) (now (image .entry)) ⌝ }
 {
     let zeros = [0u8; 64];
@@ -41,7 +41,7 @@ fn put_zeros(space: Space, view: View, image: &mut [u8], i: u64, x: u64, n: u64)
 
 // Empties block b of hash level i: every entry zero.
 fn empty_block(space: Space, view: View, image: &mut [u8], i: u64, b: u64)
-    requires { ⌜ (StagedRules space view (length (now image))) × (i ≤ 4) × (b < blocks (levelOf view i)) ⌝ }
+    requires { ⌜ (StagedIn space view (now image)) × (i ≤ 4) × (b < blocks (levelOf view i)) ⌝ }
     ensures { λ _. ⌜ now (image .exit) ≡ putLevel view i (b * blockSize (levelOf view i)) (replicate (blockLength (levelOf view i) b) 0) (now (image .entry)) ⌝ }
 {
     let level = level_of(view, i);
@@ -51,7 +51,7 @@ fn empty_block(space: Space, view: View, image: &mut [u8], i: u64, b: u64)
 
 // Empties block b if its entry does not match.
 fn empty_one(space: Space, view: View, image: &mut [u8], i: u64, b: u64)
-    requires { ⌜ (StagedRules space view (length (now image))) × (1 ≤ i) × (i ≤ 4) × (b < blocks (levelOf view i)) ⌝ }
+    requires { ⌜ (StagedIn space view (now image)) × (1 ≤ i) × (i ≤ 4) × (b < blocks (levelOf view i)) ⌝ }
     ensures { λ _. ⌜ now (image .exit) ≡ emptied (levelOf view) (contentOf view) (putLevel view) (matches view (now (image .entry)) i) i b 1 (now (image .entry)) ⌝ }
 {
     if !block_matches(view, image, i, b) {
@@ -61,7 +61,7 @@ fn empty_one(space: Space, view: View, image: &mut [u8], i: u64, b: u64)
 
 // The same for each of the blocks from `from` on, before end.
 fn empty_level(space: Space, view: View, image: &mut [u8], i: u64, from: u64, end: u64)
-    requires { ⌜ (StagedRules space view (length (now image))) × (1 ≤ i) × (i ≤ 4) × (end ≤ blocks (levelOf view i)) ⌝ }
+    requires { ⌜ (StagedIn space view (now image)) × (1 ≤ i) × (i ≤ 4) × (end ≤ blocks (levelOf view i)) ⌝ }
     ensures { λ _. ⌜ now (image .exit) ≡ emptied (levelOf view) (contentOf view) (putLevel view) (matches view (now (image .entry)) i) i from (end - from) (now (image .entry)) ⌝ }
 {
     let mut b = from;
@@ -83,7 +83,7 @@ pub fn clear_above(
     front: bool,
     back: bool,
 )
-    requires { ⌜ (StagedRules space view (length (now image))) × (i ≤ 4) × (first ≤ last) × (last < blocks (levelOf view i)) ⌝ }
+    requires { ⌜ (StagedIn space view (now image)) × (i ≤ 4) × (first ≤ last) × (last < blocks (levelOf view i)) ⌝ }
     requires { ⌜ (front ≡ true → verified view (now image) i first ≡ true) × (back ≡ true → verified view (now image) i last ≡ true) ⌝ }
     ensures { λ _. ⌜ now (image .exit) ≡ cleared (levelOf view) (contentOf view) (putLevel view) (verified view (now (image .entry))) i first last (now (image .entry)) ⌝ }
 {

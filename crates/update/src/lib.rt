@@ -2,14 +2,14 @@
 // up to the master hash.
 use clearing::clear_for;
 use dpfs::Space;
-use dpfs::staging::put_bytes;
-use dpfs::staging::store_bytes;
 use ivfc::ENTRY;
 use ivfc::View;
 use ivfc::gathering::level_of;
 use ivfc::hashing::digests_from;
 use ivfc::verifying::parent_of;
 use number::blocks::block_of;
+use stores::staging::put_bytes;
+use stores::staging::store_bytes;
 use zeros::zero_held;
 
 pub mod clearing;
@@ -24,11 +24,11 @@ ghost use Rattle.number.specs.Blocks.{blocks};
 ghost use Rattle.ivfc.specs.Views.{levelOf, contentOf};
 ghost use Rattle.update.specs.Writing.{entered, rehashed};
 ghost use Rattle.update.specs.Staged.{putLevel, writtenTo, holdsZero};
-ghost use Rattle.update.specs.Rules.{StagedRules, WriteRules, EndsRules, InPlace};
+ghost use Rattle.update.specs.Rules.{OwnView, StagedIn, WriteRules, EndsRules, InPlace};
 
-// The one store to an external level 4: in place, in the range that is written.
+// The one store to an external level 4 of the container that the image opens as: in place, in the range that is written.
 fn store_outside(view: View, image: &mut [u8], x: u64, n: u64, i: u64, value: u8)
-    requires { ⌜ (InPlace view x n i) × (i < length (now image)) ⌝ }
+    requires { ⌜ (OwnView view (now image)) × (x + n ≤ view .level4 .size) × (InPlace view x n i) × (i < length (now image)) ⌝ }
     ensures { λ _. ⌜ now (image .exit) ≡ set (now (image .entry)) i value ⌝ }
 {
     let at = i as usize;
@@ -37,7 +37,7 @@ fn store_outside(view: View, image: &mut [u8], x: u64, n: u64, i: u64, value: u8
 
 // Writes bytes to an external level 4 from x on.
 fn put_outside(view: View, image: &mut [u8], x: u64, values: &[u8])
-    requires { ⌜ (view .external ≡ true) × (view .outside + x + length (now values) ≤ length (now image)) × (length (now image) ≤ 0x4000000) ⌝ }
+    requires { ⌜ (OwnView view (now image)) × (view .external ≡ true) × (x + length (now values) ≤ view .level4 .size) ⌝ }
     ensures { λ _. ⌜ now (image .exit) ≡ sets (now (image .entry)) (view .outside + x) (now (values .entry)) ⌝ }
 {
     let n = values.len() as u64;
@@ -52,7 +52,7 @@ fn put_outside(view: View, image: &mut [u8], x: u64, values: &[u8])
 // Puts bytes into a level of the staged view: into the master hash at its place of the inactive table, into an external level 4 in place, else into
 // the staged DPFS level 3.
 fn put_level(space: Space, view: View, image: &mut [u8], i: u64, x: u64, values: &[u8])
-    requires { ⌜ (StagedRules space view (length (now image))) × (i ≤ 4) × (x + length (now values) ≤ levelOf view i .size) ⌝ }
+    requires { ⌜ (StagedIn space view (now image)) × (i ≤ 4) × (x + length (now values) ≤ levelOf view i .size) ⌝ }
     ensures { λ _. ⌜ now (image .exit) ≡ putLevel view i x (now (values .entry)) (now (image .entry)) ⌝ }
 {
     if i == 0 {
@@ -72,7 +72,7 @@ fn put_level(space: Space, view: View, image: &mut [u8], i: u64, x: u64, values:
 
 // Brings the entries, in level i, of some blocks from b on, before end, up to date, and says of how many.
 fn enter_some(space: Space, view: View, image: &mut [u8], i: u64, b: u64, end: u64) -> u64
-    requires { ⌜ (StagedRules space view (length (now image))) × (i < 4) × (b < end) × (end ≤ blocks (levelOf view (suc i))) ⌝ }
+    requires { ⌜ (StagedIn space view (now image)) × (i < 4) × (b < end) × (end ≤ blocks (levelOf view (suc i))) ⌝ }
     ensures { λ r. ⌜ (0 < r) × (b + r ≤ end) × (now (image .exit) ≡ entered (levelOf view) (contentOf view) (putLevel view) i b r (now (image .entry))) ⌝ }
 {
     let digests = digests_from(view, image, i + 1, b, end);
@@ -85,7 +85,7 @@ fn enter_some(space: Space, view: View, image: &mut [u8], i: u64, b: u64, end: u
 
 // The same for the blocks first to last, each of which is hashed once.
 fn enter(space: Space, view: View, image: &mut [u8], i: u64, first: u64, last: u64)
-    requires { ⌜ (StagedRules space view (length (now image))) × (i < 4) × (first ≤ last) × (last < blocks (levelOf view (suc i))) ⌝ }
+    requires { ⌜ (StagedIn space view (now image)) × (i < 4) × (first ≤ last) × (last < blocks (levelOf view (suc i))) ⌝ }
     ensures { λ _. ⌜ now (image .exit) ≡ entered (levelOf view) (contentOf view) (putLevel view) i first (suc last - first) (now (image .entry)) ⌝ }
 {
     let mut b = first;
@@ -97,7 +97,7 @@ fn enter(space: Space, view: View, image: &mut [u8], i: u64, first: u64, last: u
 
 // The same for the blocks first to last of level i, then for the blocks that hold their entries, and so on up to the master hash.
 fn rehash(space: Space, view: View, image: &mut [u8], i: u64, first: u64, last: u64)
-    requires { ⌜ (StagedRules space view (length (now image))) × (i ≤ 4) × (first ≤ last) × (last < blocks (levelOf view i)) ⌝ }
+    requires { ⌜ (StagedIn space view (now image)) × (i ≤ 4) × (first ≤ last) × (last < blocks (levelOf view i)) ⌝ }
     ensures { λ _. ⌜ now (image .exit) ≡ rehashed (levelOf view) (contentOf view) (putLevel view) i first last (now (image .entry)) ⌝ }
 {
     if i > 0 {

@@ -1,4 +1,5 @@
 pub mod PlaceLaws
 pub mod ProtectedLaws
+pub mod OpenLaws
 pub mod FitLaws
 pub mod FlagLaws

@@ -38,7 +38,7 @@ range-or-not r i = go (decLt i (r .offset)) (decLt i (r .offset + r .size))
     go (no h) (no k) = no (λ l. omega arith)
 
 -- ranges that are apart have no byte in common
-never-both : (a b : Range) (i : ℕ) → Apart a b → InRange a i → InRange b i → ⊥
+pub never-both : (a b : Range) (i : ℕ) → Apart a b → InRange a i → InRange b i → ⊥
 never-both a b i (inl h) p q = omega arith
 never-both a b i (inr h) p q = omega arith
 
@@ -150,7 +150,7 @@ module _ (image : List ℕ) (c : Container) (g : Guarantees image c) (i : ℕ) w
   same-or-apart (suc zero) (suc (suc r)) h k = absurd (third-missing (length image) (c .header) (g .header) r k)
   same-or-apart (suc (suc q)) r h k = absurd (third-missing (length image) (c .header) (g .header) q h)
 
-  external-inside : (q : ℕ) → q < partitions c → ExternalByte c q i → InRange (slotOf c q .partition) i
+  pub external-inside : (q : ℕ) → q < partitions c → ExternalByte c q i → InRange (slotOf c q .partition) i
   unfolding ExternalByte
   external-inside q k (e, h) =
       let inside : partitionOf c q .difi .outside + partitionOf c q .ivfc .level4 .size ≤ slotOf c q .partition .size

@@ -1,11 +1,12 @@
 -- `rehash` brings the entries of an interval up to date level by level; the level falls. Assumes nothing.
-use mathlib.Core.Path.{_≡_, _∙_, sym, ap}
+use mathlib.Core.Path.{_∙_, sym}
 use native.Mathlib.Omega.{arith}
 use lib.ListN.{length}
 use Rattle.ivfc.specs.Views.{levelOf}
 use Rattle.ivfc.proofs.EntryLaws.{parent-mono}
 use Rattle.ivfc.proofs.VerifiedLaws.{parent-above}
-use Rattle.update.proofs.CodeLaws.{log-small, below-exists, number-small, length-entered, rehash-step, rehash-none}
+use Rattle.update.proofs.StagedLaws.{staged}
+use Rattle.update.proofs.CodeLaws.{log-small, below-exists, number-small, entered-kept, rehash-step, rehash-none}
 use borrow.Author.Needs.{needs}
 use Prim.Native.Nat.{ℕ, _≤_, _<_, _-_}
 use borrow.Fn.Kinds.{In}
@@ -81,7 +82,7 @@ rehash-enter-requires t c κs =
       p .0,
       omega arith,
       p .2,
-      below-exists (a .view) (length (a .image .now)) (p .0 .rules) (a .i) (a .last) (omega (arith, c .before .before .if1 .taken)) (p .1) (p .3),
+      below-exists (a .view) (length (a .image .now)) (staged (p .0) .rules) (a .i) (a .last) (omega (arith, c .before .before .if1 .taken)) (p .1) (p .3),
     )
 
 rehash-sub-rehash : (t : ℕ) → rehash-lts.Need-sub-rehash (
@@ -111,8 +112,8 @@ rehash-parent-of-requires t c κs =
     let a = s .args in
     let p = s .pre .1 in
     let some : 1 ≤ a .i = omega (arith, c .before .before .before .before .before .before .if1 .taken) in (
-      rw (c .before .before .before .before .before .level-of .ensures) (log-small (a .view) (length (a .image .now)) (p .0 .rules) _ (omega (arith, p .1))),
-      omega (arith, number-small (a .view) (length (a .image .now)) (p .0 .rules) (a .i) (a .last) some (p .1) (p .3), p .2),
+      rw (c .before .before .before .before .before .level-of .ensures) (log-small (a .view) (length (a .image .now)) (staged (p .0) .rules) _ (omega (arith, p .1))),
+      omega (arith, number-small (a .view) (length (a .image .now)) (staged (p .0) .rules) (a .i) (a .last) some (p .1) (p .3), p .2),
     )
 
 rehash-parent-of-requires-2 : (t : ℕ) → rehash-lts.Need-parent-of-requires-2 (
@@ -130,8 +131,8 @@ rehash-parent-of-requires-2 t c κs =
     let a = s .args in
     let p = s .pre .1 in
     let some : 1 ≤ a .i = omega (arith, c .before .before .before .before .before .before .before .if1 .taken) in (
-      rw (c .before .before .before .before .before .before .level-of .ensures) (log-small (a .view) (length (a .image .now)) (p .0 .rules) _ (omega (arith, p .1))),
-      omega (arith, number-small (a .view) (length (a .image .now)) (p .0 .rules) (a .i) (a .last) some (p .1) (p .3), p .2),
+      rw (c .before .before .before .before .before .before .level-of .ensures) (log-small (a .view) (length (a .image .now)) (staged (p .0) .rules) _ (omega (arith, p .1))),
+      omega (arith, number-small (a .view) (length (a .image .now)) (staged (p .0) .rules) (a .i) (a .last) some (p .1) (p .3), p .2),
     )
 
 rehash-rehash-requires : (t : ℕ) → rehash-lts.Need-rehash-requires (
@@ -149,17 +150,14 @@ rehash-rehash-requires t c κs =
     let a = s .args in
     let p = s .pre .1 in
     let some : 1 ≤ a .i = omega (arith, c .before .before .before .before .before .before .before .before .if1 .taken) in
-    let lower = below-exists (a .view) (length (a .image .now)) (p .0 .rules) (a .i) (a .last) some (p .1) (p .3) in
-    let size : length (c .before .before .before .before .before .enter .last .1 .1 .0) ≡ length (a .image .now) =
-    ap length (c .before .before .before .before .before .enter .ensures)
-    ∙ length-entered (a .space) (a .view) (a .image .now) (p .0) (a .i - 1) (a .first) (a .last) (omega arith) (p .2) lower in (
+    let lower = below-exists (a .view) (length (a .image .now)) (staged (p .0) .rules) (a .i) (a .last) some (p .1) (p .3) in (
       omega (arith, s .pre .0, some),
       (
-        rw size (p .0),
+        entered-kept (p .0) (a .i - 1) (a .first) (a .last) (omega arith) (p .2) lower _ (c .before .before .before .before .before .enter .ensures),
         omega (arith, p .1),
         rw (c .before .parent-of .ensures, c .parent-of2 .ensures) (parent-mono _ _ _ (omega (arith, p .2))),
         rw (c .parent-of2 .ensures, c .before .before .before .before .before .before .before .level-of .ensures)
-            (parent-above (levelOf (a .view)) (p .0 .rules .hash) (a .i) (a .last) some (p .1) (p .3)),
+            (parent-above (levelOf (a .view)) (staged (p .0) .rules .hash) (a .i) (a .last) some (p .1) (p .3)),
       ),
     )
 

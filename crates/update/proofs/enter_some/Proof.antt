@@ -10,6 +10,7 @@ use Rattle.number.specs.Blocks.{blocks}
 use Rattle.ivfc.specs.Rows.{digests}
 use Rattle.ivfc.specs.Views.{levelOf, contentOf}
 use Rattle.ivfc.proofs.ViewLaws.{block-small}
+use Rattle.update.proofs.StagedLaws.{staged}
 use Rattle.update.proofs.CodeLaws.{some-entered, some-inside}
 use Rattle.update.proofs.enter_some.Statement.{statement}
 use Rattle.update.proofs.enter_some.Tie as tie
@@ -20,7 +21,7 @@ add-digests-from c = search needs
 digests-from-requires : tie.Need-digests-from-requires
 digests-from-requires c κs =
     let p = c .before .before .pre in
-    (p .0 .rules, omega arith, omega (arith, p .2), rw add-one (omega (arith, p .3)))
+    (staged (p .0) .rules, omega arith, omega (arith, p .2), rw add-one (omega (arith, p .3)))
 
 mul-size : tie.Need-mul-size
 mul-size c = search needs
@@ -30,7 +31,7 @@ mul-put-level c =
     let s = c .before .before .before .before .before in
     let a = s .args in
     let p = s .pre in
-    omega (arith, block-small (a .view) (length (a .image .now)) (p .0 .rules) (suc (a .i)) (a .b) (omega arith) (omega (arith, p .2, p .3)))
+    omega (arith, block-small (a .view) (length (a .image .now)) (staged (p .0) .rules) (suc (a .i)) (a .b) (omega arith) (omega (arith, p .2, p .3)))
 
 array-share-prefix-hashes : tie.Need-array-share-prefix-hashes
 array-share-prefix-hashes c = search needs
@@ -49,7 +50,7 @@ put-level-requires c κs =
     let e : a .b + d .result .count ≤ blocks (levelOf (a .view) (suc (a .i))) = omega (arith, d .ensures .0, p .3) in (
       p .0,
       omega arith,
-      simp length-take (omega (arith, d .ensures .0, some-inside (a .space) (a .view) (a .image .now) (p .0) (a .i) (a .b) (d .result .count) (p .1) e)),
+      simp length-take (omega (arith, d .ensures .0, some-inside (a .space) (a .view) (a .image .now) (staged (p .0)) (a .i) (a .b) (d .result .count) (p .1) e)),
     )
 
 same-length : tie.Need-same-length
@@ -65,7 +66,7 @@ returns c =
       d .ensures .0 .0,
       d .ensures .0 .2,
       c .before .before .put-level .ensures
-          ∙ some-entered (a .space) (a .view) (a .image .now) (p .0) (a .i) (a .b) (d .result .count) (p .1) e
+          ∙ some-entered (a .space) (a .view) (a .image .now) (staged (p .0)) (a .i) (a .b) (d .result .count) (p .1) e
           (take (32 * d .result .count) (d .result .bytes))
           (d .ensures .1 ∙ ap (λ (j : ℕ). digests (levelOf (a .view) j) (contentOf (a .view) (a .image .now) j) (a .b) (d .result .count)) (add-one (a .i))),
     )

@@ -6,7 +6,8 @@ use lib.ListN.{length}
 use borrow.Author.Needs.{needs}
 use Rattle.number.specs.declared.Level.{Level}
 use Rattle.dpfs.specs.Staging as dpfs
-use Rattle.update.proofs.CodeLaws.{put-master, put-inner, put-outer, master-ends, master-free, inner-ends, outer-ends}
+use Rattle.update.proofs.CodeLaws.{put-master, put-inner, put-outer, master-ends, master-free, inner-ends, outer-external, outer-fits}
+use Rattle.update.proofs.StagedLaws.{staged}
 use Rattle.update.proofs.put_level.Statement.{statement}
 use Rattle.update.proofs.put_level.Tie as tie
 
@@ -14,23 +15,19 @@ add-store-bytes : tie.Need-add-store-bytes
 add-store-bytes c =
     let a = c .before .before .before .before .before .args in
     let p = c .before .before .before .before .before .pre in
-    omega (arith, master-ends (a .space) (a .view) (a .image .now) (p .0) (a .i) (a .x) (length (a .values .now)) (p .2) (c .before .before .if1 .taken))
+    omega (arith, master-ends (a .space) (a .view) (a .image .now) (staged (p .0)) (a .i) (a .x) (length (a .values .now)) (p .2) (c .before .before .if1 .taken), staged (p .0) .rules .tree .limit)
 
 store-bytes-requires : tie.Need-store-bytes-requires
 store-bytes-requires c κs =
     let a = c .before .before .before .before .before .args in
     let p = c .before .before .before .before .before .pre in (
       p .0 .places,
-      master-ends (a .space) (a .view) (a .image .now) (p .0) (a .i) (a .x) (length (a .values .now)) (p .2) (c .before .before .if1 .taken),
-      master-free (a .space) (a .view) (a .image .now) (p .0) (a .i) (a .x) (length (a .values .now)) (p .2) (c .before .before .if1 .taken),
+      master-ends (a .space) (a .view) (a .image .now) (staged (p .0)) (a .i) (a .x) (length (a .values .now)) (p .2) (c .before .before .if1 .taken),
+      master-free (a .space) (a .view) (a .image .now) (staged (p .0)) (a .i) (a .x) (length (a .values .now)) (p .2) (c .before .before .if1 .taken),
     )
 
 put-outside-requires : tie.Need-put-outside-requires
-put-outside-requires c κs =
-    let a = c .before .before .before .before .before .before .args in
-    let p = c .before .before .before .before .before .before .pre in
-    let o = outer-ends (a .space) (a .view) (a .image .now) (p .0) (a .i) (a .x) (length (a .values .now)) (p .2) (c .before .if2 .taken) in
-    (o .0, o .1, p .0 .rules .tree .limit)
+put-outside-requires c κs = (search needs, search (needs, outer-external), search (needs, outer-fits))
 
 level-of-requires : tie.Need-level-of-requires
 level-of-requires c κs = search needs
@@ -40,15 +37,15 @@ add-put-bytes c =
     let a = c .before .before .before .before .before .before .before .before .args in
     let p = c .before .before .before .before .before .before .before .before .pre in
     let e : c .before .level-of .result .offset ≡ _ = ap (λ (l : Level). l .offset) (c .before .level-of .ensures) in
-    omega (arith, e, inner-ends (a .space) (a .view) (a .image .now) (p .0) (a .i) (a .x) (length (a .values .now)) (p .2) (p .1) (c .before .before .before .before .before .if1 .left) (c .before .before .before .if2 .left), p .0 .rules .tree .inside3)
+    omega (arith, e, inner-ends (a .space) (a .view) (a .image .now) (staged (p .0)) (a .i) (a .x) (length (a .values .now)) (p .2) (p .1) (c .before .before .before .before .before .if1 .left) (c .before .before .before .if2 .left), staged (p .0) .rules .tree .inside3, staged (p .0) .rules .tree .limit)
 
 put-bytes-requires : tie.Need-put-bytes-requires
 put-bytes-requires c κs =
     let a = c .before .before .before .before .before .before .before .before .args in
     let p = c .before .before .before .before .before .before .before .before .pre in (
       p .0 .places,
-      p .0 .among,
-      rw (c .before .level-of .ensures) (inner-ends (a .space) (a .view) (a .image .now) (p .0) (a .i) (a .x) (length (a .values .now)) (p .2) (p .1) (c .before .before .before .before .before .if1 .left) (c .before .before .before .if2 .left)),
+      staged (p .0) .among,
+      rw (c .before .level-of .ensures) (inner-ends (a .space) (a .view) (a .image .now) (staged (p .0)) (a .i) (a .x) (length (a .values .now)) (p .2) (p .1) (c .before .before .before .before .before .if1 .left) (c .before .before .before .if2 .left)),
     )
 
 same-length : tie.Need-same-length

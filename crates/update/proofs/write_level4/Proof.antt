@@ -7,6 +7,7 @@ use lib.ListN.{length}
 use borrow.Author.Needs.{needs}
 use Rattle.number.specs.declared.Level.{Level}
 use Rattle.number.specs.Blocks.{blockOf}
+use Rattle.update.proofs.StagedLaws.{staged}
 use Rattle.update.proofs.CodeLaws.{log-small, write-small, write-none, none-holds, write-ends}
 use Rattle.update.proofs.write_level4.Statement.{statement}
 use Rattle.update.proofs.write_level4.Tie as tie
@@ -27,7 +28,7 @@ add-end c =
 block-of-requires : tie.Need-block-of-requires
 block-of-requires c κs =
     let s = c .before .before .before .before .before in
-    rw (c .before .level-of .ensures) (log-small (s .args .view) (length (s .args .image .now)) (s .pre .rules .rules) 4 (omega arith))
+    rw (c .before .level-of .ensures) (log-small (s .args .view) (length (s .args .image .now)) (staged (s .pre .own) .rules) 4 (omega arith))
 
 sub-block-of : tie.Need-sub-block-of
 sub-block-of c = omega (arith, pos-of-ne-zero (c .before .before .before .if1 .left))
@@ -35,7 +36,7 @@ sub-block-of c = omega (arith, pos-of-ne-zero (c .before .before .before .if1 .l
 block-of-requires-2 : tie.Need-block-of-requires-2
 block-of-requires-2 c κs =
     let s = c .before .before .before .before .before .before in
-    rw (c .before .before .level-of .ensures) (log-small (s .args .view) (length (s .args .image .now)) (s .pre .rules .rules) 4 (omega arith))
+    rw (c .before .before .level-of .ensures) (log-small (s .args .view) (length (s .args .image .now)) (staged (s .pre .own) .rules) 4 (omega arith))
 
 write-blocks-requires : tie.Need-write-blocks-requires
 write-blocks-requires c κs =

@@ -1,6 +1,6 @@
 use Rattle.steps.specs.Sessions.{nothing}
 use Rattle.views.proofs.FitLaws.{space-fits}
-use Rattle.steps.proofs.SessionLaws.{begin-unopened, begin-busy, begin-done, guaranteed}
+use Rattle.steps.proofs.SessionLaws.{begin-unopened, begin-busy, begin-done, valid, guaranteed}
 use borrow.Author.Needs.{needs}
 use Rattle.container.proofs.sessions.begin.Statement.{statement}
 use Rattle.container.proofs.sessions.begin.Tie as tie
@@ -42,7 +42,7 @@ space-of-requires : tie.Need-space-of-requires
 space-of-requires c κs = space-fits (c .before .before .before .before .before .before .before .before .before .args .image .now) (c .before .before .before .before .answer .given .0 .0) (guaranteed (c .before .before .before .before .before .before .before .before .before .args .image .now) (c .before .before .before .before .before .before .«open» .result) (c .before .before .before .before .before .before .«open» .ensures) (c .before .before .before .before .before .before .before .before .before .args .session) (c .before .before .before .before .answer .given .0 .0) (c .before .before .before .before .answer .given .1))
 
 stage-image-requires : tie.Need-stage-image-requires
-stage-image-requires c κs = (c .before .space-of .ensures, guaranteed (c .before .before .before .before .before .before .before .before .before .before .before .args .image .now) (c .before .before .before .before .before .before .before .before .«open» .result) (c .before .before .before .before .before .before .before .before .«open» .ensures) (c .before .before .before .before .before .before .before .before .before .before .before .args .session) (c .before .before .before .before .before .before .answer .given .0 .0) (c .before .before .before .before .before .before .answer .given .1))
+stage-image-requires c κs = (c .before .space-of .ensures, valid (c .before .before .before .before .before .before .before .before .before .before .before .args .image .now) (c .before .before .before .before .before .before .before .before .«open» .result) (c .before .before .before .before .before .before .before .before .«open» .ensures) (c .before .before .before .before .before .before .before .before .before .before .before .args .session) (c .before .before .before .before .before .before .answer .given .0 .0) (c .before .before .before .before .before .before .answer .given .1))
 
 same-length-3 : tie.Need-same-length-3
 same-length-3 c = search needs

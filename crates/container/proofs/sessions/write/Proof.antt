@@ -1,5 +1,5 @@
 -- `container::sessions::write` meets its contract. Assumes nothing.
-use Rattle.steps.proofs.SessionLaws.{guaranteed, session-unopened, session-idle, session-stale, session-goes-on, write-missing, write-there}
+use Rattle.steps.proofs.SessionLaws.{valid, guaranteed, session-unopened, session-idle, session-stale, session-goes-on, write-missing, write-there}
 use Rattle.steps.specs.Calls.{write}
 use Rattle.views.specs.Places.{partitions}
 use borrow.Author.Tests.{not-true, not-false, ltb-true}
@@ -67,7 +67,7 @@ unfolding write
 returns-4 c = session-goes-on _ _ (c .before .before .before .before .before .before .before .before .before .before .before .«open» .ensures) _ _ (c .before .before .before .before .before .before .before .before .before .answer .given .1) _ (not-false _ (c .before .before .before .before .before .before .if1 .left)) (passed (c .before .before .before .before .is-current .ensures) (c .before .before .before .if2 .left)) _ _ (write-missing _ (c .before .before .before .before .before .before .before .before .before .answer .given .0 .0) _ (c .before .before .before .before .before .before .before .before .before .before .before .before .before .before .before .args .partition) (c .before .before .before .before .before .before .before .before .before .before .before .before .before .before .before .args .place) (c .before .before .before .before .before .before .before .before .before .before .before .before .before .before .before .args .bytes .now) (failed (c .before .before .has-partition .ensures) (c .before .if3 .taken)) _ (c .refused4 .ensures))
 
 write-partition-requires : tie.Need-write-partition-requires
-write-partition-requires c κs = (guaranteed _ _ (c .before .before .before .before .before .before .before .before .before .before .before .«open» .ensures) (c .before .before .before .before .before .before .before .before .before .before .before .before .before .before .before .args .session) _ (c .before .before .before .before .before .before .before .before .before .answer .given .1), ltb-true (c .before .before .before .before .before .before .before .before .before .before .before .before .before .before .before .args .partition) (partitions (c .before .before .before .before .before .before .before .before .before .answer .given .0 .0)) (passed (c .before .before .has-partition .ensures) (c .before .if3 .left)))
+write-partition-requires c κs = (valid _ _ (c .before .before .before .before .before .before .before .before .before .before .before .«open» .ensures) (c .before .before .before .before .before .before .before .before .before .before .before .before .before .before .before .args .session) _ (c .before .before .before .before .before .before .before .before .before .answer .given .1), ltb-true (c .before .before .before .before .before .before .before .before .before .before .before .before .before .before .before .args .partition) (partitions (c .before .before .before .before .before .before .before .before .before .answer .given .0 .0)) (passed (c .before .before .has-partition .ensures) (c .before .if3 .left)))
 
 same-length-5 : tie.Need-same-length-5
 same-length-5 c = search needs

@@ -1,12 +1,13 @@
 -- `write_partition`: what `judge_write` answers, then the write, and how it ends. Assumes nothing.
 use Rattle.steps.proofs.SessionLaws.{view-keeps, write-refused, write-asks, write-done}
+use Rattle.layout.proofs.GuaranteeLaws.{guarantees}
 use Rattle.views.proofs.FitLaws.{space-fits, places-fit}
 use borrow.Author.Needs.{needs}
 use Rattle.steps.proofs.writing.write_partition.Statement.{statement}
 use Rattle.steps.proofs.writing.write_partition.Tie as tie
 
 staged-view-requires : tie.Need-staged-view-requires
-staged-view-requires c κs = places-fit (c .before .before .args .image .now) (c .before .before .args .c) (c .before .before .pre .0) (c .before .before .args .q) (c .before .before .pre .1)
+staged-view-requires c κs = places-fit (c .before .before .args .image .now) (c .before .before .args .c) (guarantees _ _ (c .before .before .pre .0)) (c .before .before .args .q) (c .before .before .pre .1)
 
 judge-write-requires : tie.Need-judge-write-requires
 judge-write-requires c κs =
@@ -23,7 +24,7 @@ enum-told : tie.Need-enum-told
 enum-told c = search needs
 
 space-of-requires : tie.Need-space-of-requires
-space-of-requires c κs = space-fits (c .before .before .before .before .before .before .before .args .image .now) (c .before .before .before .before .before .before .before .args .c) (c .before .before .before .before .before .before .before .pre .0)
+space-of-requires c κs = space-fits (c .before .before .before .before .before .before .before .args .image .now) (c .before .before .before .before .before .before .before .args .c) (guarantees _ _ (c .before .before .before .before .before .before .before .pre .0))
 
 write-level4-requires : tie.Need-write-level4-requires
 write-level4-requires c κs =

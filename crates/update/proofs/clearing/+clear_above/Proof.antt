@@ -16,7 +16,8 @@ use Rattle.ivfc.proofs.ViewLaws.{block-small}
 use Rattle.ivfc.proofs.EntryLaws.{parent-mono}
 use Rattle.ivfc.proofs.VerifiedLaws.{parent-above}
 use Rattle.update.proofs.CodeLaws.{log-small, number-small}
-use Rattle.update.proofs.ClearLaws.{parent-verified, clear-none, clear-step}
+use Rattle.update.proofs.StagedLaws.{staged}
+use Rattle.update.proofs.ClearLaws.{parent-verified, cleared-kept, clear-none, clear-step}
 use Rattle.update.proofs.clearing.clear_above.Reads as clear-above
 use Rattle.update.proofs.clearing.clear_above.Kinds as clear-above-kinds
 use Rattle.update.proofs.clearing.+clear_above.Lts-clear_above as clear-above-lts
@@ -66,8 +67,8 @@ asked t c b o =
     let s = c .before .before .before in
     let a = s .args in
     let p = s .pre .1 .0 in (
-      rw (c .level-of .ensures) (log-small (a .view) (length (a .image .now)) (p .0 .rules) _ (omega (arith, p .1))),
-      omega (arith, number-small (a .view) (length (a .image .now)) (p .0 .rules) (a .i) (a .last) (omega (arith, c .before .if1 .taken)) (p .1) (p .3)),
+      rw (c .level-of .ensures) (log-small (a .view) (length (a .image .now)) (staged (p .0) .rules) _ (omega (arith, p .1))),
+      omega (arith, number-small (a .view) (length (a .image .now)) (staged (p .0) .rules) (a .i) (a .last) (omega (arith, c .before .if1 .taken)) (p .1) (p .3)),
     )
 
 parent-of-requires : (t : ℕ) → clear-above-lts.Need-parent-of-requires (callees t) (clear-above-at t) clear-above.Post
@@ -93,7 +94,7 @@ module _ (t : ℕ) (c : clear-above-lts.After-parent-of2 (callees t) (clear-abov
   q-there : c .parent-of2 .result < blocks (levelOf (c .before .before .before .before .before .args .view) (c .before .before .before .before .before .args .i - 1))
   q-there =
       let s = c .before .before .before .before .before in
-      rw q-is (parent-above (levelOf (s .args .view)) (s .pre .1 .0 .0 .rules .hash) (s .args .i) (s .args .last) some (s .pre .1 .0 .1) (s .pre .1 .0 .3))
+      rw q-is (parent-above (levelOf (s .args .view)) (staged (s .pre .1 .0 .0) .rules .hash) (s .args .i) (s .args .last) some (s .pre .1 .0 .1) (s .pre .1 .0 .3))
 
   p≤q : c .before .parent-of .result ≤ c .parent-of2 .result
   p≤q =
@@ -103,7 +104,7 @@ module _ (t : ℕ) (c : clear-above-lts.After-parent-of2 (callees t) (clear-abov
   q-small : c .parent-of2 .result < 0x4000000
   q-small =
       let s = c .before .before .before .before .before in
-      block-small (s .args .view) (length (s .args .image .now)) (s .pre .1 .0 .0 .rules) (s .args .i - 1) (c .parent-of2 .result) (omega (arith, s .pre .1 .0 .1)) q-there
+      block-small (s .args .view) (length (s .args .image .now)) (staged (s .pre .1 .0 .0) .rules) (s .args .i - 1) (c .parent-of2 .result) (omega (arith, s .pre .1 .0 .1)) q-there
 
 clear-above-requires : (t : ℕ) → clear-above-lts.Need-clear-above-requires (callees t) (clear-above-at t) clear-above.Post
 clear-above-requires t c κs =
@@ -144,7 +145,7 @@ empty-level-requires : (t : ℕ) → clear-above-lts.Need-empty-level-requires (
 empty-level-requires t c κs =
     let s = c .before .before .before .before .before .before .before .before .before .before in
     let r = c .before .before .before .before .before in (
-      rw (c .before .before .before .clear-above .kept .1 .1 .0) (s .pre .1 .0 .0),
+      cleared-kept (s .pre .1 .0 .0) (s .args .i - 1) _ _ (omega (arith, s .pre .1 .0 .1)) (p≤q t r) (q-there t r) _ (c .before .before .before .clear-above .ensures),
       omega (arith, r .before .before .before .if1 .taken),
       omega (arith, s .pre .1 .0 .1),
       omega (arith, q-there t r),
@@ -159,7 +160,7 @@ returns t c =
     let s = r .before .before .before .before .before in
     let a = s .args in
     let p = s .pre .1 in
-    clear-step (a .space) (a .view) (a .image .now) (p .0 .0) (a .i) (a .first) (a .last) (r .before .parent-of .result) (r .parent-of2 .result) (a .front) (a .back)
+    clear-step (a .space) (a .view) (a .image .now) (staged (p .0 .0)) (a .i) (a .first) (a .last) (r .before .parent-of .result) (r .parent-of2 .result) (a .front) (a .back)
     (omega (arith, r .before .before .before .if1 .taken)) (p .0 .1) (p .0 .2) (p .0 .3) (p-is t r) (q-is t r) (p .1 .0) (p .1 .1) _ _
     (c .before .before .before .before .before .before .clear-above .ensures) (c .before .before .empty-level .ensures)
 

@@ -7,6 +7,7 @@ use lib.ListN.{length}
 use Rattle.number.specs.Blocks.{blocks}
 use Rattle.ivfc.specs.Views.{levelOf}
 use Rattle.ivfc.proofs.ViewLaws.{level-small}
+use Rattle.update.proofs.StagedLaws.{staged}
 use Rattle.update.proofs.CodeLaws.{ends-fit, ends-ordered, ends-exist, first-known, last-known}
 use Rattle.update.proofs.clearing.clear_for.Statement.{statement}
 use Rattle.update.proofs.clearing.clear_for.Tie as tie
@@ -21,8 +22,8 @@ asked c b o =
     let s = c .before .before in
     let a = s .args in
     let e = c .level-of .ensures in
-    let small = level-small (a .view) (length (a .image .now)) (s .pre .rules .rules) 4 (omega arith) in (
-      rw e (s .pre .rules .rules .hash .logs 4 (omega arith) .1),
+    let small = level-small (a .view) (length (a .image .now)) (staged (s .pre .own) .rules) 4 (omega arith) in (
+      rw e (staged (s .pre .own) .rules .hash .logs 4 (omega arith) .1),
       rw e small,
       rw e (omega (arith, ends-exist (a .space) (a .view) (a .image .now) (a .x) (a .n) (a .first) (a .last) (s .pre))),
       omega (arith, ends-fit (a .space) (a .view) (a .image .now) (a .x) (a .n) (a .first) (a .last) (s .pre), small),
@@ -43,7 +44,7 @@ clear-above-requires c κs =
     let a = s .args in
     let e = c .before .before .before .level-of .ensures in (
       (
-        s .pre .rules,
+        s .pre .own,
         omega arith,
         ends-ordered (a .space) (a .view) (a .image .now) (a .x) (a .n) (a .first) (a .last) (s .pre),
         ends-exist (a .space) (a .view) (a .image .now) (a .x) (a .n) (a .first) (a .last) (s .pre),

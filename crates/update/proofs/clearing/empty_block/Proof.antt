@@ -10,6 +10,7 @@ use Rattle.number.proofs.BlockLaws.{exists-byte}
 use Rattle.ivfc.specs.Views.{levelOf}
 use Rattle.ivfc.proofs.ViewLaws.{level-small}
 use Rattle.update.specs.Staged.{putLevel}
+use Rattle.update.proofs.StagedLaws.{staged}
 use Rattle.update.proofs.JudgeLaws.{start-inside, stop-inside}
 use Rattle.update.proofs.CodeLaws.{log-small}
 use Rattle.update.proofs.clearing.empty_block.Statement.{statement}
@@ -21,7 +22,7 @@ level-of-requires c κs = search needs
 block-size-requires : tie.Need-block-size-requires
 block-size-requires c κs =
     let s = c .before .before in
-    rw (c .level-of .ensures) (log-small (s .args .view) _ (s .pre .0 .rules) (s .args .i) (s .pre .1))
+    rw (c .level-of .ensures) (log-small (s .args .view) _ (staged (s .pre .0) .rules) (s .args .i) (s .pre .1))
 
 mul-start : tie.Need-mul-start
 mul-start c =
@@ -30,7 +31,7 @@ mul-start c =
     omega (
       arith,
       start-inside (levelOf (a .view) (a .i)) (a .b) (c .block-size .result) (c .block-size .ensures .0 ∙ ap blockSize (c .before .level-of .ensures)) (s .pre .2),
-      level-small (a .view) _ (s .pre .0 .rules) (a .i) (s .pre .1),
+      level-small (a .view) _ (staged (s .pre .0) .rules) (a .i) (s .pre .1),
     )
 
 block-length-requires : tie.Need-block-length-requires
@@ -38,7 +39,7 @@ block-length-requires c κs =
     let s = c .before .before .before .before in
     let a = s .args in
     let e = c .before .before .level-of .ensures in (
-      rw e (log-small (a .view) _ (s .pre .0 .rules) (a .i) (s .pre .1)),
+      rw e (log-small (a .view) _ (staged (s .pre .0) .rules) (a .i) (s .pre .1)),
       rw e (omega (arith, exists-byte (levelOf (a .view) (a .i)) (a .b) (s .pre .2))),
     )
 

@@ -6,7 +6,8 @@ use borrow.Author.Needs.{needs}
 use lib.ListN.{length}
 use Rattle.ivfc.specs.Views.{matches}
 use Rattle.ivfc.proofs.ViewLaws.{block-small}
-use Rattle.update.proofs.ClearLaws.{allEmptied, level-step, level-none}
+use Rattle.update.proofs.ClearLaws.{allEmptied, emptied-kept, level-step, level-none}
+use Rattle.update.proofs.StagedLaws.{staged}
 use Rattle.update.proofs.clearing.empty_level.Statement.{statement}
 use Rattle.update.proofs.clearing.empty_level.Tie as tie
 
@@ -22,15 +23,17 @@ loop-holds c = (omega arith, omega arith, refl, level-none _ _ _ _ _ _ refl)
 
 empty-one-requires : tie.Need-empty-one-requires Inv-loop μ-loop
 empty-one-requires c κs =
+    let a = c .before .before .before .before .args in
     let p = c .before .before .before .before .pre in
-    (rw (c .before .before .loop .inv .2) (p .0), p .1, p .2, omega (arith, p .3, c .before .loop-test .taken))
+    let l = c .before .before .loop in
+    (emptied-kept (p .0) (a .i) (p .2) (matches (a .view) (a .image .now) (a .i)) (a .from) (l .b - a .from) (omega (arith, p .3, l .inv .0, c .before .loop-test .taken)) (l .image) (l .inv .3), p .1, p .2, omega (arith, p .3, c .before .loop-test .taken))
 
 add-b : tie.Need-add-b Inv-loop μ-loop
 add-b c =
     let s = c .before .before .before .before .before .before .before in
     let l = c .before .before .before .before .before .loop in
     let t : l .b < s .args .end = c .before .before .before .before .loop-test .taken in
-    omega (arith, block-small (s .args .view) _ (s .pre .0 .rules) (s .args .i) (l .b) (s .pre .2) (omega (arith, s .pre .3)))
+    omega (arith, block-small (s .args .view) _ (staged (s .pre .0) .rules) (s .args .i) (l .b) (s .pre .2) (omega (arith, s .pre .3)))
 
 loop-less : tie.Need-loop-less Inv-loop μ-loop
 loop-less c = omega arith
@@ -46,7 +49,7 @@ loop-again c =
       omega (arith, l .inv .0),
       omega (arith, l .inv .0, l .inv .1),
       o .kept .1 .1 .0 ∙ l .inv .2,
-      level-step (a .space) (a .view) (a .image .now) (p .0) (a .i) (a .from) (l .b) (p .1) (p .2) (l .inv .0) (omega (arith, p .3)) (l .image) _ (l .inv .3) (o .ensures),
+      level-step (a .space) (a .view) (a .image .now) (staged (p .0)) (a .i) (a .from) (l .b) (p .1) (p .2) (l .inv .0) (omega (arith, p .3)) (l .image) _ (l .inv .3) (o .ensures),
     )
 
 same-length : tie.Need-same-length Inv-loop μ-loop

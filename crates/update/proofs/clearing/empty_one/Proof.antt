@@ -4,6 +4,7 @@ use native.Mathlib.Omega.{arith}
 use borrow.Author.Needs.{needs}
 use Rattle.number.proofs.Tests.{failed, passed}
 use Rattle.ivfc.specs.Views.{matches}
+use Rattle.update.proofs.StagedLaws.{staged}
 use Rattle.update.proofs.ClearLaws.{one-stays, one-emptied}
 use Rattle.update.proofs.clearing.empty_one.Statement.{statement}
 use Rattle.update.proofs.clearing.empty_one.Tie as tie
@@ -11,7 +12,7 @@ use Rattle.update.proofs.clearing.empty_one.Tie as tie
 block-matches-requires : tie.Need-block-matches-requires
 block-matches-requires c κs =
     let s = c .before .before in
-    (s .pre .0 .rules, s .pre .1, s .pre .2, s .pre .3)
+    (staged (s .pre .0) .rules, s .pre .1, s .pre .2, s .pre .3)
 
 empty-block-requires : tie.Need-empty-block-requires
 empty-block-requires c κs = search needs

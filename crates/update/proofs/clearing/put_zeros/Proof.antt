@@ -9,7 +9,8 @@ use Rattle.ivfc.proofs.ViewLaws.{level-small}
 use Rattle.update.specs.Staged.{putLevel}
 use Rattle.update.proofs.ImageLaws.{level-none}
 use Rattle.number.proofs.ListLaws.{take-zeros}
-use Rattle.update.proofs.ClearLaws.{zeros-more}
+use Rattle.update.proofs.ClearLaws.{zeros-more, zeros-kept}
+use Rattle.update.proofs.StagedLaws.{staged}
 use Rattle.update.proofs.clearing.put_zeros.Statement.{statement}
 use Rattle.update.proofs.clearing.put_zeros.Tie as tie
 
@@ -32,7 +33,7 @@ lesser-requires c κs = search needs
 add-put-level : tie.Need-add-put-level Inv-loop μ-loop
 add-put-level c =
     let s = c .before .before .before .before .before in
-    omega (arith, level-small (s .args .view) _ (s .pre .0 .rules) (s .args .i) (s .pre .1), s .pre .2, c .before .before .before .loop .inv .1)
+    omega (arith, level-small (s .args .view) _ (staged (s .pre .0) .rules) (s .args .i) (s .pre .1), s .pre .2, c .before .before .before .loop .inv .1)
 
 array-share-prefix-zeros : tie.Need-array-share-prefix-zeros Inv-loop μ-loop
 array-share-prefix-zeros c = search needs
@@ -47,7 +48,7 @@ put-level-requires c κs =
     let s = c .before .before .before .before .before .before in
     let l = c .before .before .before .before .loop in
     let k = c .before .before .lesser .result in (
-      rw (l .inv .2) (s .pre .0),
+      zeros-kept (s .pre .0) (s .args .i) (s .args .x) (l .done) (l .image) (s .pre .1) (omega (arith, s .pre .2, l .inv .1)) (l .inv .3),
       s .pre .1,
       rw (take-zeros 64 k (omega (arith, c .before .before .lesser .ensures)), length-replicate {A = ℕ} k 0)
           (omega (arith, s .pre .2, c .before .before .lesser .ensures, l .inv .1)),

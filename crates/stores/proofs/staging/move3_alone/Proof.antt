@@ -1,31 +1,31 @@
 -- The copy of level 3 that is not live is free, and so is the staged copy of its bit, whose block is moved. Assumes nothing.
-use Rattle.dpfs.proofs.CodeLaws.{move3-asks, move3-bit, move3-alone-is}
-use Rattle.dpfs.proofs.SpaceLaws.{among-placed}
+use Rattle.stores.proofs.CodeLaws.{move3-asks, move3-bit, move3-alone-is}
+use Rattle.stores.proofs.OwnLaws.{own-placed}
 use Rattle.dpfs.proofs.LevelLaws.{bit-inside2}
 use lib.ListN.{length}
 use borrow.Author.Needs.{needs}
-use Rattle.dpfs.proofs.staging.move3_alone.Statement.{statement}
-use Rattle.dpfs.proofs.staging.move3_alone.Tie as tie
+use Rattle.stores.proofs.staging.move3_alone.Statement.{statement}
+use Rattle.stores.proofs.staging.move3_alone.Tie as tie
 
 copy3-requires : tie.Need-copy3-requires
 copy3-requires c κs =
     let s = c .before .before in
     let a = s .args in
-    let w = among-placed (a .space) (length (a .image .now)) (s .pre .0 .0) (a .tree) (s .pre .0 .1) in
+    let w = own-placed (a .space) (a .image .now) (s .pre .0 .0) (a .tree) (s .pre .0 .1) in
     (w, bit-inside2 (a .tree) (length (a .image .now)) w (a .b) (s .pre .0 .2))
 
 copy3-requires-2 : tie.Need-copy3-requires-2
 copy3-requires-2 c κs =
     let s = c .before .before .before .before .before in
     let a = s .args in
-    let w = among-placed (a .space) (length (a .image .now)) (s .pre .0 .0) (a .tree) (s .pre .0 .1) in
+    let w = own-placed (a .space) (a .image .now) (s .pre .0 .0) (a .tree) (s .pre .0 .1) in
     (w, bit-inside2 (a .tree) (length (a .image .now)) w (a .b) (s .pre .0 .2))
 
 bit-place-requires : tie.Need-bit-place-requires
 bit-place-requires c κs =
     let s = c .before .before .before .before .before .before .before .before in
     let a = s .args in
-    let w = among-placed (a .space) (length (a .image .now)) (s .pre .0 .0) (a .tree) (s .pre .0 .1) in
+    let w = own-placed (a .space) (a .image .now) (s .pre .0 .0) (a .tree) (s .pre .0 .1) in
     (w, bit-inside2 (a .tree) (length (a .image .now)) w (a .b) (s .pre .0 .2))
 
 move-block-requires : tie.Need-move-block-requires

@@ -1,22 +1,21 @@
 -- The half that is stored to is free, and becomes a copy of the live one. Assumes nothing.
-use Rattle.dpfs.proofs.CodeLaws.{begin-asks, begun-is}
-use Rattle.dpfs.proofs.SpaceLaws.{among-placed}
-use lib.ListN.{length}
+use Rattle.stores.proofs.CodeLaws.{begin-asks, begun-is}
+use Rattle.stores.proofs.OwnLaws.{own-placed}
 use native.Mathlib.Omega.{arith}
 use borrow.Author.Needs.{needs}
-use Rattle.dpfs.proofs.staging.begin_tree.Statement.{statement}
-use Rattle.dpfs.proofs.staging.begin_tree.Tie as tie
+use Rattle.stores.proofs.staging.begin_tree.Statement.{statement}
+use Rattle.stores.proofs.staging.begin_tree.Tie as tie
 
 place-of-requires : tie.Need-place-of-requires
 place-of-requires c κs =
     let s = c .before .before in
-    let w = among-placed (s .args .space) (length (s .args .image .now)) (s .pre .0) (s .args .tree) (s .pre .1) in
+    let w = own-placed (s .args .space) (s .args .image .now) (s .pre .0) (s .args .tree) (s .pre .1) in
     omega (arith, w .inside1, w .inside3, w .limit)
 
 place-of-requires-2 : tie.Need-place-of-requires-2
 place-of-requires-2 c κs =
     let s = c .before .before .before .before in
-    let w = among-placed (s .args .space) (length (s .args .image .now)) (s .pre .0) (s .args .tree) (s .pre .1) in
+    let w = own-placed (s .args .space) (s .args .image .now) (s .pre .0) (s .args .tree) (s .pre .1) in
     omega (arith, w .inside1, w .inside3, w .limit)
 
 copy-within-requires : tie.Need-copy-within-requires

@@ -1,6 +1,7 @@
 -- Each store is at a free place, and the bytes that are left are stored as before. Assumes nothing.
-use Rattle.dpfs.proofs.CodeLaws.{still-free, store-keeps}
+use Rattle.stores.proofs.CodeLaws.{still-free, store-keeps}
+use Rattle.stores.proofs.OwnLaws.{own-limit, own-kept}
 use Rattle.dpfs.specs.Free.{Free}
 use Rattle.number.proofs.ListLaws.{sets-start, sets-step, sets-end}
 use Rattle.number.proofs.FrameLaws.{keeps-refl}
 use Rattle.number.specs.Frame.{Keeps}
@@ -10,8 +11,8 @@ use native.Mathlib.Omega.{arith}
 use Prim.Native.Nat.{ℕ, _+_, _≤_, _-_}
 use mathlib.Core.List.{List}
 use mathlib.Core.Path.{_≡_, sym, ap, _∙_}
-use Rattle.dpfs.proofs.staging.store_bytes.Statement.{statement}
-use Rattle.dpfs.proofs.staging.store_bytes.Tie as tie
+use Rattle.stores.proofs.staging.store_bytes.Statement.{statement}
+use Rattle.stores.proofs.staging.store_bytes.Tie as tie
 
 abbrev Inv-loop : tie.InvT-loop
 Inv-loop space image₀ x values i₀ image i = (i ≤ length values) × Keeps (Free space image₀) image₀ image × (sets image (x + i) (drop i values) ≡ sets image₀ x values)
@@ -28,17 +29,22 @@ shared-slice-read-value : tie.Need-shared-slice-read-value Inv-loop μ-loop
 shared-slice-read-value c = omega arith
 
 add-store : tie.Need-add-store Inv-loop μ-loop
-add-store c = omega (arith, c .before .before .before .before .before .before .pre .1, c .before .before .before .before .before .before .pre .0 .a .limit)
+add-store c =
+    let s = c .before .before .before .before .before .before in
+    omega (arith, s .pre .1, own-limit (s .args .space) (s .args .image .now) (s .pre .0))
 
 store-requires : tie.Need-store-requires Inv-loop μ-loop
 store-requires c κs =
     let s = c .before .before .before .before .before .before in (
-      still-free (s .args .space) _ (s .pre .0) (s .args .image .now) (c .before .before .before .loop .image) (c .before .before .before .loop .inv .1) (s .args .x + c .before .before .before .loop .i) (s .pre .2 (c .before .before .before .loop .i) (c .before .before .loop-test .taken)),
+      own-kept (s .args .space) (s .args .image .now) (s .pre .0) (c .before .before .before .loop .image) (c .before .before .before .loop .inv .1),
+      still-free (s .args .space) (s .args .image .now) (s .pre .0) (c .before .before .before .loop .image) (c .before .before .before .loop .inv .1) (s .args .x + c .before .before .before .loop .i) (s .pre .2 (c .before .before .before .loop .i) (c .before .before .loop-test .taken)),
       omega (arith, s .pre .1, c .before .before .before .loop .inv .1 .size),
     )
 
 add-i : tie.Need-add-i Inv-loop μ-loop
-add-i c = omega (arith, c .before .before .before .before .before .before .before .before .before .pre .1, c .before .before .before .before .before .before .before .before .before .pre .0 .a .limit)
+add-i c =
+    let s = c .before .before .before .before .before .before .before .before .before in
+    omega (arith, s .pre .1, own-limit (s .args .space) (s .args .image .now) (s .pre .0))
 
 loop-less : tie.Need-loop-less Inv-loop μ-loop
 loop-less c = omega arith

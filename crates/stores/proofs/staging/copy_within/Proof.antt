@@ -1,13 +1,14 @@
 -- Each store is at a free place, and after i of them i bytes are copied. Assumes nothing.
-use Rattle.dpfs.proofs.CodeLaws.{copy-free}
+use Rattle.stores.proofs.CodeLaws.{copy-own, copy-free}
+use Rattle.stores.proofs.OwnLaws.{own-limit}
 use Rattle.number.proofs.ListLaws.{copied-turn}
 use Rattle.number.specs.Bytes.{copied}
 use lib.ListN.{length}
 use native.Mathlib.Omega.{arith}
 use Prim.Native.Nat.{_≤_, _-_}
 use mathlib.Core.Path.{_≡_, refl, ap, _∙_}
-use Rattle.dpfs.proofs.staging.copy_within.Statement.{statement}
-use Rattle.dpfs.proofs.staging.copy_within.Tie as tie
+use Rattle.stores.proofs.staging.copy_within.Statement.{statement}
+use Rattle.stores.proofs.staging.copy_within.Tie as tie
 
 abbrev Inv-loop : tie.InvT-loop
 Inv-loop space image₀ source target n i₀ image i = (i ≤ n) × (image ≡ copied image₀ source target i) × (length image ≡ length image₀)
@@ -20,17 +21,22 @@ unfolding copied
 loop-holds c = (omega arith, refl, refl)
 
 add-at : tie.Need-add-at Inv-loop μ-loop
-add-at c = omega (arith, c .before .before .before .pre .from, c .before .before .before .pre .rules .a .limit)
+add-at c =
+    let s = c .before .before .before in
+    omega (arith, s .pre .from, own-limit (s .args .space) (s .args .image .now) (s .pre .own))
 
 slice-read-value : tie.Need-slice-read-value Inv-loop μ-loop
 slice-read-value c = omega (arith, c .before .before .before .before .pre .from)
 
 add-store : tie.Need-add-store Inv-loop μ-loop
-add-store c = omega (arith, c .before .before .before .before .before .pre .to, c .before .before .before .before .before .pre .rules .a .limit)
+add-store c =
+    let s = c .before .before .before .before .before in
+    omega (arith, s .pre .to, own-limit (s .args .space) (s .args .image .now) (s .pre .own))
 
 store-requires : tie.Need-store-requires Inv-loop μ-loop
 store-requires c κs =
     let s = c .before .before .before .before .before in (
+      copy-own (s .args .space) (s .args .image .now) (c .before .before .before .loop .image) (s .args .source) (s .args .target) (s .args .n) (c .before .before .before .loop .i) (s .pre) (c .before .before .loop-test .taken) (c .before .before .before .loop .inv .1),
       copy-free (s .args .space) (s .args .image .now) (c .before .before .before .loop .image) (s .args .source) (s .args .target) (s .args .n) (c .before .before .before .loop .i) (s .pre) (c .before .before .loop-test .taken) (c .before .before .before .loop .inv .1),
       omega (arith, s .pre .to),
     )

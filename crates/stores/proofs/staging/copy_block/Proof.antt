@@ -1,12 +1,13 @@
 -- The places that are copied are the two copies of the block. Assumes nothing.
 use Prim.Native.Nat.{ℕ}
-use Rattle.dpfs.proofs.CodeLaws.{block-start, copy-asks, block-copied-is}
+use Rattle.stores.proofs.CodeLaws.{block-start, copy-asks, block-copied-is}
+use Rattle.stores.proofs.OwnLaws.{own-limit}
 use native.Mathlib.Omega.{arith}
 use Prim.Native.Nat.{_*_}
 use mathlib.Core.Path.{ap}
 use borrow.Author.Needs.{needs}
-use Rattle.dpfs.proofs.staging.copy_block.Statement.{statement}
-use Rattle.dpfs.proofs.staging.copy_block.Tie as tie
+use Rattle.stores.proofs.staging.copy_block.Statement.{statement}
+use Rattle.stores.proofs.staging.copy_block.Tie as tie
 
 block-size-requires : tie.Need-block-size-requires
 block-size-requires c κs = search needs
@@ -15,19 +16,19 @@ mul-y : tie.Need-mul-y
 mul-y c =
     let s = c .before .before in
     let a = s .args in
-    omega (arith, ap (λ (r : ℕ). a .b * r) (c .block-size .ensures .0), block-start (a .space) (a .image .now) (a .l) (a .second) (a .b) (s .pre), s .pre .inside, s .pre .rules .a .limit)
+    omega (arith, ap (λ (r : ℕ). a .b * r) (c .block-size .ensures .0), block-start (a .space) (a .image .now) (a .l) (a .second) (a .b) (s .pre), s .pre .inside, own-limit (a .space) (a .image .now) (s .pre .own))
 
 place-of-requires : tie.Need-place-of-requires
 place-of-requires c κs =
     let s = c .before .before in
     let a = s .args in
-    omega (arith, ap (λ (r : ℕ). a .b * r) (c .block-size .ensures .0), block-start (a .space) (a .image .now) (a .l) (a .second) (a .b) (s .pre), s .pre .inside, s .pre .rules .a .limit)
+    omega (arith, ap (λ (r : ℕ). a .b * r) (c .block-size .ensures .0), block-start (a .space) (a .image .now) (a .l) (a .second) (a .b) (s .pre), s .pre .inside, own-limit (a .space) (a .image .now) (s .pre .own))
 
 place-of-requires-2 : tie.Need-place-of-requires-2
 place-of-requires-2 c κs =
     let s = c .before .before .before in
     let a = s .args in
-    omega (arith, ap (λ (r : ℕ). a .b * r) (c .before .block-size .ensures .0), block-start (a .space) (a .image .now) (a .l) (a .second) (a .b) (s .pre), s .pre .inside, s .pre .rules .a .limit)
+    omega (arith, ap (λ (r : ℕ). a .b * r) (c .before .block-size .ensures .0), block-start (a .space) (a .image .now) (a .l) (a .second) (a .b) (s .pre), s .pre .inside, own-limit (a .space) (a .image .now) (s .pre .own))
 
 block-length-requires : tie.Need-block-length-requires
 block-length-requires c κs =

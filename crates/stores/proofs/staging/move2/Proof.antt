@@ -1,25 +1,25 @@
 -- The copy of level 2 that the live half does not name is free, and so is the other half of level 1. Assumes nothing.
-use Rattle.dpfs.proofs.CodeLaws.{move2-asks, move2-bit, move2-is}
-use Rattle.dpfs.proofs.SpaceLaws.{among-placed}
+use Rattle.stores.proofs.CodeLaws.{move2-asks, move2-bit, move2-is}
+use Rattle.stores.proofs.OwnLaws.{own-placed}
 use Rattle.dpfs.proofs.LevelLaws.{bit-inside1}
 use lib.ListN.{length}
 use native.Mathlib.Omega.{arith}
 use borrow.Author.Needs.{needs}
-use Rattle.dpfs.proofs.staging.move2.Statement.{statement}
-use Rattle.dpfs.proofs.staging.move2.Tie as tie
+use Rattle.stores.proofs.staging.move2.Statement.{statement}
+use Rattle.stores.proofs.staging.move2.Tie as tie
 
 copy2-requires : tie.Need-copy2-requires
 copy2-requires c κs =
     let s = c .before .before .before in
     let a = s .args in
-    let w = among-placed (a .space) (length (a .image .now)) (s .pre .0) (a .tree) (s .pre .1) in
+    let w = own-placed (a .space) (a .image .now) (s .pre .0) (a .tree) (s .pre .1) in
     (w, bit-inside1 (a .tree) (length (a .image .now)) w (a .j) (s .pre .2))
 
 copy2-requires-2 : tie.Need-copy2-requires-2
 copy2-requires-2 c κs =
     let s = c .before .before .before .before .before .before in
     let a = s .args in
-    let w = among-placed (a .space) (length (a .image .now)) (s .pre .0) (a .tree) (s .pre .1) in
+    let w = own-placed (a .space) (a .image .now) (s .pre .0) (a .tree) (s .pre .1) in
     (w, bit-inside1 (a .tree) (length (a .image .now)) w (a .j) (s .pre .2))
 
 byte-of-bit-requires : tie.Need-byte-of-bit-requires
@@ -29,7 +29,7 @@ place-of-requires : tie.Need-place-of-requires
 place-of-requires c κs =
     let s = c .before .before .before .before .before .before .before .before .before in
     let a = s .args in
-    let w = among-placed (a .space) (length (a .image .now)) (s .pre .0) (a .tree) (s .pre .1) in
+    let w = own-placed (a .space) (a .image .now) (s .pre .0) (a .tree) (s .pre .1) in
     omega (arith, w .inside1, w .limit, c .byte-of-bit .ensures, bit-inside1 (a .tree) (length (a .image .now)) w (a .j) (s .pre .2))
 
 move-block-requires : tie.Need-move-block-requires

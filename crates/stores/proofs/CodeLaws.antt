@@ -14,30 +14,35 @@ use Rattle.number.specs.Bytes.{copied}
 use Rattle.number.specs.Frame.{Keeps}
 use Rattle.number.proofs.BlockLaws.{exists-byte, block-inside}
 use Rattle.number.proofs.FrameLaws.{keeps-trans, keeps-set, keeps-copied}
 use Rattle.dpfs.specs.declared.Tree.{Tree}
 use Rattle.dpfs.specs.declared.Space.{Space}
 use Rattle.dpfs.specs.Free.{FreeCopy, FreeIn, Free}
 use Rattle.dpfs.specs.Bits.{bitByte, bitPlace, flipBit, bitOf}
 use Rattle.dpfs.specs.Tree.{place, levelByte, select1, select2, select3}
 use Rattle.dpfs.specs.Staging.{begun, OffLive2, OffLive3, same, blockCopied, bitFlipped, moved, moved2, moved3alone, moved3, put}
-use Rattle.dpfs.specs.Rules.{WellPlaced, SpaceRules, Among, CopyRules, BlockRules, blockRest}
+use Rattle.dpfs.specs.Rules.{WellPlaced, Among, blockRest}
 use Rattle.dpfs.proofs.LevelLaws.{place-add, place-ends, place-inside, halves-apart, bit-inside1, bit-inside2, held1, held2, block-places, block-keeps}
 use Rattle.dpfs.proofs.RunLaws.{run-some, run-ends, run-room, run-further, run-block}
-use Rattle.dpfs.proofs.TreeLaws.{moved2-off, moved3-off3}
+use Rattle.dpfs.proofs.TreeLaws.{moved2-off, moved2-keeps, moved3-off3, moved3-keeps}
 use Rattle.dpfs.proofs.PutLaws.{put-run, put-append}
 use Rattle.dpfs.proofs.BeginLaws.{other-free}
-use Rattle.dpfs.proofs.SpaceLaws.{among-placed, tree-free, kept-free}
+use Rattle.dpfs.proofs.SpaceLaws.{tree-free, tree-keeps, kept-free, space-put, space-trans}
+use Rattle.stores.specs.Rules.{OwnSpace, CopyRules, BlockRules}
+use Rattle.stores.proofs.OwnLaws.{own-rules, own-placed, own-kept}
 
--- what is free stays free while free bytes change
-pub still-free : (space : Space) (n : ℕ) → SpaceRules space n → (image after : List ℕ) → Keeps (Free space image) image after → (i : ℕ) → Free space image i → Free space after i
-still-free space n r image after k i f = kept-free space n r image after k i .1 f
+-- while free bytes change, what is free stays free, and the space the image's own
+pub still-free : (space : Space) (image : List ℕ) → OwnSpace space image → (after : List ℕ) → Keeps (Free space image) image after → (i : ℕ) → Free space image i → Free space after i
+still-free space image r after k i f = kept-free space (length image) (own-rules space image r) image after k i .1 f
 
-pub copy-free : (space : Space) (image after : List ℕ) (source target n i : ℕ) → CopyRules space image source target n → i < n → after ≡ copied image source target i
-    → Free space after (target + i)
-copy-free space image after source target n i r h e =
-    subst (λ (l : List ℕ). Free space l (target + i)) (sym e)
-    (still-free space (length image) (r .rules) image (copied image source target i)
-    (keeps-copied (Free space image) image source target i (λ m k. r .free m (omega arith))) (target + i) (r .free i h))
+module _ (space : Space) (image after : List ℕ) (source target n i : ℕ) (r : CopyRules space image source target n) (h : i < n) (e : after ≡ copied image source target i) where
+  copy-keeps : Keeps (Free space image) image after
+  copy-keeps = subst (Keeps (Free space image) image) (sym e) (keeps-copied (Free space image) image source target i (λ m k. r .free m (omega arith)))
+
+  pub copy-own : OwnSpace space after
+  copy-own = own-kept space image (r .own) after copy-keeps
+
+  pub copy-free : Free space after (target + i)
+  copy-free = still-free space image (r .own) after copy-keeps (target + i) (r .free i h)
 
 pub store-keeps : (F : ℕ → Type 0) (image now after : List ℕ) (i v : ℕ) → Keeps F image now → F i → after ≡ set now i v → Keeps F image after
 store-keeps F image now after i v k f e =
@@ -45,13 +50,13 @@ store-keeps F image now after i v k f e =
 
 -- ---- copies
 
-pub begin-asks : (space : Space) (tree : Tree) (image : List ℕ) (source target : ℕ) → SpaceRules space (length image) → Among tree space
+pub begin-asks : (space : Space) (tree : Tree) (image : List ℕ) (source target : ℕ) → OwnSpace space image → Among tree space
     → source ≡ place (tree .level1) (tree .live) 0 → target ≡ place (tree .level1) (not (tree .live)) 0 → CopyRules space image source target (tree .level1 .size)
 begin-asks space tree image source target r m es et =
-    let w = among-placed space (length image) r tree m in
+    let w = own-placed space image r tree m in
     let whole : 0 + tree .level1 .size ≤ tree .level1 .size = omega arith in
     subst₂ (λ (p q : ℕ). CopyRules space image p q (tree .level1 .size)) (sym es) (sym et) (record {
-      rules = r;
+      own = r;
       from = place-ends (tree .level1) (length image) (w .inside1) (tree .live) 0 (tree .level1 .size) whole;
       to = place-ends (tree .level1) (length image) (w .inside1) (not (tree .live)) 0 (tree .level1 .size) whole;
       apart = halves-apart (tree .level1) (tree .live) 0 (tree .level1 .size) whole;
@@ -73,7 +78,7 @@ copy-asks space image l second b y source target n r ey es et en =
     let start = block-start space image l second b r in
     let ends : b * blockSize l + blockLength l b ≤ l .size = block-inside l b (omega arith) in
     subst₃ (CopyRules space image) (sym (es ∙ ap (place l second) ey)) (sym (et ∙ ap (place l (not second)) ey)) (sym en) (record {
-      rules = r .rules;
+      own = r .own;
       from = place-ends l (length image) (r .inside) second (b * blockSize l) (blockLength l b) ends;
       to = place-ends l (length image) (r .inside) (not second) (b * blockSize l) (blockLength l b) ends;
       apart = halves-apart l second (b * blockSize l) (blockLength l b) ends;
@@ -93,12 +98,16 @@ same-is true false = refl
 same-is false true = refl
 same-is false false = refl
 
--- the place of the bit stays free in the copy
-pub flip-free : (space : Space) (image after : List ℕ) (l : Level) (second : Bool) (b at : ℕ) → BlockRules space image l second b → Free space image at
-    → after ≡ blockCopied l second b image → Free space after at
-flip-free space image after l second b at r f e =
-    subst (λ (s : List ℕ). Free space s at) (sym e)
-    (still-free space (length image) (r .rules) image (blockCopied l second b image) (block-keeps l second b image (Free space image) (r .free)) at f)
+-- the space and the place of the bit stay in the copy
+module _ (space : Space) (image after : List ℕ) (l : Level) (second : Bool) (b : ℕ) (r : BlockRules space image l second b) (e : after ≡ blockCopied l second b image) where
+  block-kept : Keeps (Free space image) image after
+  block-kept = subst (Keeps (Free space image) image) (sym e) (block-keeps l second b image (Free space image) (r .free))
+
+  pub flip-own : OwnSpace space after
+  flip-own = own-kept space image (r .own) after block-kept
+
+  pub flip-free : (at : ℕ) → Free space image at → Free space after at
+  flip-free at f = still-free space image (r .own) after block-kept at f
 
 -- a move as the code makes it, of the copies that are live and staged and the place of the bit's byte
 pub moved-code : (upper : Level) (live staged : ℕ → Bool) (lower : Level) (b : ℕ) (image after : List ℕ) (c d : Bool) (at : ℕ)
@@ -110,16 +119,16 @@ unfolding moved bitFlipped levelByte
 moved-code upper live staged lower b image after c d at ec ed ea e =
     e ∙ (λ i. cond (same (ec i) (ed i)) (set (blockCopied lower (ec i) b image) (ea i) (flipBit (getD (blockCopied lower (ec i) b image) (ea i) 0) (bitPlace b))) image)
 
-module _ (space : Space) (tree : Tree) (image : List ℕ) (r : SpaceRules space (length image)) (m : Among tree space) where
+module _ (space : Space) (tree : Tree) (image : List ℕ) (r : OwnSpace space image) (m : Among tree space) where
   w : WellPlaced tree (length image)
-  w = among-placed space (length image) r tree m
+  w = own-placed space image r tree m
 
   -- of level 2
   module _ (j : ℕ) (h : j < blocks (tree .level2)) where
     pub move2-asks : (c : Bool) → c ≡ select2 tree image (tree .live) j → BlockRules space image (tree .level2) c j
     unfolding FreeIn FreeCopy
     move2-asks c e = record {
-      rules = r;
+      own = r;
       log = w .log2 .1;
       inside = w .inside2;
       exists = h;
@@ -150,7 +159,7 @@ module _ (space : Space) (tree : Tree) (image : List ℕ) (r : SpaceRules space 
     pub move3-asks : (c : Bool) → c ≡ select3 tree image (tree .live) b → BlockRules space image (tree .level3) c b
     unfolding FreeIn FreeCopy
     move3-asks c e = record {
-      rules = r;
+      own = r;
       log = w .log3 .1;
       inside = w .inside3;
       exists = h;
@@ -172,6 +181,12 @@ module _ (space : Space) (tree : Tree) (image : List ℕ) (r : SpaceRules space 
         subst (λ (l : List ℕ). OffLive2 tree l (blockOf (tree .level2) (bitByte b))) (sym (e ∙ ap (λ (k : ℕ). moved2 tree k image) ej))
         (moved2-off tree (blockOf (tree .level2) (bitByte b)) image w (held1 tree (length image) w (bitByte b) (bit-inside2 tree (length image) w b h)))
 
+    pub move3-own : (j : ℕ) (after : List ℕ) → j ≡ blockOf (tree .level2) (bitByte b) → after ≡ moved2 tree j image → OwnSpace space after
+    move3-own j after ej e =
+        own-kept space image r after
+        (subst (Keeps (Free space image) image) (sym (e ∙ ap (λ (k : ℕ). moved2 tree k image) ej))
+        (tree-keeps space tree m image _ (moved2-keeps tree (blockOf (tree .level2) (bitByte b)) image w (held1 tree (length image) w (bitByte b) (bit-inside2 tree (length image) w b h)))))
+
   pub move3-alone-is : (b : ℕ) (after : List ℕ) (c d : Bool) (at : ℕ) → c ≡ select3 tree image (tree .live) b → d ≡ select3 tree image (not (tree .live)) b
       → at ≡ place (tree .level2) (select2 tree image (not (tree .live)) (blockOf (tree .level2) (bitByte b))) (bitByte b)
       → after ≡ cond (same c d) (set (blockCopied (tree .level3) c b image) at (flipBit (getD (blockCopied (tree .level3) c b image) at 0) (bitPlace b))) image
@@ -187,7 +202,7 @@ move3-is tree b j image next after ej en ea = ea ∙ ap (moved3alone tree b) (en
 
 -- ---- runs
 
-module _ (space : Space) (tree : Tree) (image : List ℕ) (r : SpaceRules space (length image)) (m : Among tree space) (x : ℕ) (values : List ℕ)
+module _ (space : Space) (tree : Tree) (image : List ℕ) (r : OwnSpace space image) (m : Among tree space) (x : ℕ) (values : List ℕ)
     (some : 0 < length values) (room : length values ≤ blockRest tree x (tree .level3 .size)) where
   ends : x + length values ≤ tree .level3 .size
   ends = run-room tree x (tree .level3 .size) (length values) some room
@@ -202,7 +217,7 @@ module _ (space : Space) (tree : Tree) (image : List ℕ) (r : SpaceRules space 
   module _ (b : ℕ) (next : List ℕ) (c : Bool) (p : ℕ) (eb : b ≡ blockOf (tree .level3) x) (en : next ≡ moved3 tree b image)
       (ec : c ≡ select3 tree next (not (tree .live)) b) (ep : p ≡ place (tree .level3) c x) where
     w-tree : WellPlaced tree (length image)
-    w-tree = among-placed space (length image) r tree m
+    w-tree = own-placed space image r tree m
 
     inside2 : bitByte (blockOf (tree .level3) x) < tree .level2 .size
     inside2 = held2 tree (length image) w-tree x run-starts
@@ -211,6 +226,12 @@ module _ (space : Space) (tree : Tree) (image : List ℕ) (r : SpaceRules space 
     off =
         subst (λ (l : List ℕ). OffLive3 tree l (blockOf (tree .level3) x)) (sym (en ∙ ap (λ (k : ℕ). moved3 tree k image) eb))
         (moved3-off3 tree (blockOf (tree .level3) x) image w-tree inside2)
+
+    pub run-own : OwnSpace space next
+    run-own =
+        own-kept space image r next
+        (subst (Keeps (Free space image) image) (sym (en ∙ ap (λ (k : ℕ). moved3 tree k image) eb))
+        (tree-keeps space tree m image _ (moved3-keeps tree (blockOf (tree .level3) x) image w-tree inside2)))
 
     is-c : c ≡ not (select3 tree next (tree .live) (blockOf (tree .level3) x))
     is-c = ec ∙ ap (select3 tree next (not (tree .live))) eb ∙ off
@@ -236,6 +257,13 @@ module _ (space : Space) (tree : Tree) (image : List ℕ) (r : SpaceRules space 
       where
         known : next ≡ moved3 tree (blockOf (tree .level3) x) image
         known = en ∙ ap (λ (k : ℕ). moved3 tree k image) eb
+
+-- a run more keeps what is not free
+pub put-kept : (space : Space) (tree : Tree) (image : List ℕ) → OwnSpace space image → Among tree space → (x : ℕ) (values now after : List ℕ)
+    → Keeps (Free space image) image now → x + length values ≤ tree .level3 .size → after ≡ put tree x values now → Keeps (Free space image) image after
+put-kept space tree image r m x values now after k h e =
+    space-trans space (length image) (own-rules space image r) image now after k
+    (subst (Keeps (Free space now) now) (sym e) (space-put space tree now (own-rules space now (own-kept space image r now k)) m x values h))
 
 pub put-start : (tree : Tree) (x : ℕ) (values image : List ℕ) → put tree (x + 0) (drop 0 values) image ≡ put tree x values image
 put-start tree x values image = ap (λ (z : ℕ). put tree z values image) (add-zero x)
@@ -276,3 +304,10 @@ module _ (tree : Tree) (x i : ℕ) (values : List ℕ) (end : ℕ) (h : i < leng
       let long : length (drop i values) ≡ length values - i = length-drop i values in
       let short : length (take (end - x - i) (drop i values)) ≡ end - x - i = length-take-le (end - x - i) (drop i values) (omega arith) in
       (omega arith, omega (arith, run-further tree (x + i) (x + length values) (tree .level3 .size) fits))
+
+  pub run-fits : x + i + length (take (end - x - i) (drop i values)) ≤ tree .level3 .size
+  run-fits =
+      let most : x + i + blockRest tree (x + i) (x + length values) ≤ x + length values = run-ends tree (x + i) (x + length values) (omega arith) in
+      let long : length (drop i values) ≡ length values - i = length-drop i values in
+      let short : length (take (end - x - i) (drop i values)) ≡ end - x - i = length-take-le (end - x - i) (drop i values) (omega arith) in
+      omega arith

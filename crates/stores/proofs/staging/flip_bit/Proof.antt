@@ -2,8 +2,8 @@
 use lib.ListN.{set}
 use mathlib.Core.Path.{ap, _∙_}
 use borrow.Author.Needs.{needs}
-use Rattle.dpfs.proofs.staging.flip_bit.Statement.{statement}
-use Rattle.dpfs.proofs.staging.flip_bit.Tie as tie
+use Rattle.stores.proofs.staging.flip_bit.Statement.{statement}
+use Rattle.stores.proofs.staging.flip_bit.Tie as tie
 
 slice-read-value : tie.Need-slice-read-value
 slice-read-value c = search needs

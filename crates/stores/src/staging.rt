@@ -1,14 +1,15 @@
 // The stores of begin and write. `store` is the only function that stores a byte of an image before a commit; its `requires` says that the
-// place is free, so that nothing which the committed view rests on is ever stored to, not even for a moment.
-use super::Space;
-use super::Tree;
-use super::bits::bit_place;
-use super::bits::byte_of_bit;
-use super::bits::copy2;
-use super::bits::copy3;
-use super::bits::flipped;
-use super::bits::place_of;
-use super::reading::block_end;
+// space is that of the container that the image opens as, and the place free in it, so that nothing which the committed view rests on is ever
+// stored to, not even for a moment.
+use dpfs::Space;
+use dpfs::Tree;
+use dpfs::bits::bit_place;
+use dpfs::bits::byte_of_bit;
+use dpfs::bits::copy2;
+use dpfs::bits::copy3;
+use dpfs::bits::flipped;
+use dpfs::bits::place_of;
+use dpfs::reading::block_end;
 use number::Level;
 use number::blocks::block_length;
 use number::blocks::block_of;
@@ -20,14 +21,15 @@ ghost use lib.ListN.{length, getD, set};
 ghost use lib.Seq.{sets};
 ghost use Rattle.number.specs.Blocks.{blocks, blockOf};
 ghost use Rattle.number.specs.Bytes.{copied};
 ghost use Rattle.dpfs.specs.Bits.{bitByte, bitPlace, flipBit};
 ghost use Rattle.dpfs.specs.Free.{Free};
 ghost use Rattle.dpfs.specs.Staging.{OffLive2, same, blockCopied, moved2, moved3alone, moved3, put, begun};
-ghost use Rattle.dpfs.specs.Rules.{SpaceRules, Among, CopyRules, BlockRules, blockRest};
+ghost use Rattle.dpfs.specs.Rules.{Among, blockRest};
+ghost use Rattle.stores.specs.Rules.{OwnSpace, CopyRules, BlockRules};
 
 // The one store to an image before a commit: at a free place.
 pub fn store(space: Space, image: &mut [u8], i: u64, value: u8)
-    requires { ⌜ (Free space (now image) i) × (i < length (now image)) ⌝ }
+    requires { ⌜ (OwnSpace space (now image)) × (Free space (now image) i) × (i < length (now image)) ⌝ }
     ensures { λ _. ⌜ now (image .exit) ≡ set (now (image .entry)) i value ⌝ }
 {
     let at = i as usize;
@@ -50,7 +52,7 @@ pub fn copy_within(space: Space, image: &mut [u8], source: u64, target: u64, n: 
 
 // Stores bytes from x on, at free places.
 pub fn store_bytes(space: Space, image: &mut [u8], x: u64, values: &[u8])
-    requires { ⌜ (SpaceRules space (length (now image))) × (x + length (now values) ≤ length (now image)) × ((m : ℕ) → m < length (now values) → Free space (now image) (x + m)) ⌝ }
+    requires { ⌜ (OwnSpace space (now image)) × (x + length (now values) ≤ length (now image)) × ((m : ℕ) → m < length (now values) → Free space (now image) (x + m)) ⌝ }
     ensures { λ _. ⌜ now (image .exit) ≡ sets (now (image .entry)) x (now (values .entry)) ⌝ }
 {
     let mut i = 0;
@@ -63,7 +65,7 @@ pub fn store_bytes(space: Space, image: &mut [u8], x: u64, values: &[u8])
 
 // Begin: the other half of level 1 becomes a copy of the live half.
 pub fn begin_tree(space: Space, tree: Tree, image: &mut [u8])
-    requires { ⌜ (SpaceRules space (length (now image))) × (Among tree space) ⌝ }
+    requires { ⌜ (OwnSpace space (now image)) × (Among tree space) ⌝ }
     ensures { λ _. ⌜ now (image .exit) ≡ begun tree (now (image .entry)) ⌝ }
 {
     let l = tree.level1;
@@ -74,7 +76,7 @@ pub fn begin_tree(space: Space, tree: Tree, image: &mut [u8])
 
 // Flips bit n of a bit array, in the byte for it, which stands at a free place.
 fn flip_bit(space: Space, image: &mut [u8], at: u64, n: u64)
-    requires { ⌜ (Free space (now image) at) × (at < length (now image)) ⌝ }
+    requires { ⌜ (OwnSpace space (now image)) × (Free space (now image) at) × (at < length (now image)) ⌝ }
     ensures { λ _. ⌜ now (image .exit) ≡ set (now (image .entry)) at (flipBit (getD (now (image .entry)) at 0) (bitPlace n)) ⌝ }
 {
     let i = at as usize;
@@ -107,7 +109,7 @@ fn move_block(space: Space, image: &mut [u8], l: Level, live: bool, staged: bool
 
 // Moves block j of level 2.
 fn move2(space: Space, tree: Tree, image: &mut [u8], j: u64)
-    requires { ⌜ (SpaceRules space (length (now image))) × (Among tree space) × (j < blocks (tree .level2)) ⌝ }
+    requires { ⌜ (OwnSpace space (now image)) × (Among tree space) × (j < blocks (tree .level2)) ⌝ }
     ensures { λ _. ⌜ now (image .exit) ≡ moved2 tree j (now (image .entry)) ⌝ }
 {
     let l = tree.level1;
@@ -119,7 +121,7 @@ fn move2(space: Space, tree: Tree, image: &mut [u8], j: u64)
 
 // Moves block b of level 3, where the block of level 2 that holds its bit is moved.
 fn move3_alone(space: Space, tree: Tree, image: &mut [u8], b: u64)
-    requires { ⌜ (SpaceRules space (length (now image))) × (Among tree space) × (b < blocks (tree .level3)) ⌝ }
+    requires { ⌜ (OwnSpace space (now image)) × (Among tree space) × (b < blocks (tree .level3)) ⌝ }
     requires { ⌜ OffLive2 tree (now image) (blockOf (tree .level2) (bitByte b)) ⌝ }
     ensures { λ _. ⌜ now (image .exit) ≡ moved3alone tree b (now (image .entry)) ⌝ }
 {
@@ -131,7 +133,7 @@ fn move3_alone(space: Space, tree: Tree, image: &mut [u8], b: u64)
 
 // Moves block b of level 3, and first the block of level 2 that holds its bit.
 fn move3(space: Space, tree: Tree, image: &mut [u8], b: u64)
-    requires { ⌜ (SpaceRules space (length (now image))) × (Among tree space) × (b < blocks (tree .level3)) ⌝ }
+    requires { ⌜ (OwnSpace space (now image)) × (Among tree space) × (b < blocks (tree .level3)) ⌝ }
     ensures { λ _. ⌜ now (image .exit) ≡ moved3 tree b (now (image .entry)) ⌝ }
 {
     let l = tree.level2;
@@ -142,7 +144,7 @@ fn move3(space: Space, tree: Tree, image: &mut [u8], b: u64)
 
 // Puts bytes that lie in one block: one move, then plain stores.
 fn put_run(space: Space, tree: Tree, image: &mut [u8], x: u64, values: &[u8])
-    requires { ⌜ (SpaceRules space (length (now image))) × (Among tree space) × (0 < length (now values)) × (length (now values) ≤ blockRest tree x (tree .level3 .size)) ⌝ }
+    requires { ⌜ (OwnSpace space (now image)) × (Among tree space) × (0 < length (now values)) × (length (now values) ≤ blockRest tree x (tree .level3 .size)) ⌝ }
     ensures { λ _. ⌜ now (image .exit) ≡ put tree x (now (values .entry)) (now (image .entry)) ⌝ }
 {
     let l = tree.level3;
@@ -154,7 +156,7 @@ fn put_run(space: Space, tree: Tree, image: &mut [u8], x: u64, values: &[u8])
 
 // Puts bytes into the staged level 3 from x on, run by run.
 pub fn put_bytes(space: Space, tree: Tree, image: &mut [u8], x: u64, values: &[u8])
-    requires { ⌜ (SpaceRules space (length (now image))) × (Among tree space) × (x + length (now values) ≤ tree .level3 .size) ⌝ }
+    requires { ⌜ (OwnSpace space (now image)) × (Among tree space) × (x + length (now values) ≤ tree .level3 .size) ⌝ }
     ensures { λ _. ⌜ now (image .exit) ≡ put tree x (now (values .entry)) (now (image .entry)) ⌝ }
 {
     let end = x + values.len() as u64;

@@ -1,7 +1,7 @@
 -- The block is copied and its bit flipped exactly if both copies are the same. Assumes nothing.
-use Rattle.dpfs.proofs.CodeLaws.{same-is, flip-free}
+use Rattle.stores.proofs.CodeLaws.{same-is, flip-own, flip-free}
 use Rattle.dpfs.specs.Staging.{blockCopied}
 use Rattle.dpfs.specs.Bits.{bitPlace, flipBit}
 use lib.ListN.{set, getD}
 use native.Mathlib.Omega.{arith}
 use Prim.Native.Nat.{ℕ}
@@ -9,8 +9,8 @@ use mathlib.Core.List.{List}
 use mathlib.Core.Bool.{Bool, cond}
 use mathlib.Core.Path.{sym, ap, _∙_}
 use borrow.Author.Needs.{needs}
-use Rattle.dpfs.proofs.staging.move_block.Statement.{statement}
-use Rattle.dpfs.proofs.staging.move_block.Tie as tie
+use Rattle.stores.proofs.staging.move_block.Statement.{statement}
+use Rattle.stores.proofs.staging.move_block.Tie as tie
 
 copy-block-requires : tie.Need-copy-block-requires
 copy-block-requires c κs = search needs
@@ -19,7 +19,8 @@ flip-bit-requires : tie.Need-flip-bit-requires
 flip-bit-requires c κs =
     let s = c .before .before .before .before .before .before .before in
     let a = s .args in (
-      flip-free (a .space) (a .image .now) _ (a .l) (a .live) (a .b) (a .at) (s .pre .0) (s .pre .1) (c .before .before .before .copy-block .ensures),
+      flip-own (a .space) (a .image .now) _ (a .l) (a .live) (a .b) (s .pre .0) (c .before .before .before .copy-block .ensures),
+      flip-free (a .space) (a .image .now) _ (a .l) (a .live) (a .b) (s .pre .0) (c .before .before .before .copy-block .ensures) (a .at) (s .pre .1),
       omega (arith, c .before .before .before .copy-block .kept .1 .0, s .pre .2),
     )
 

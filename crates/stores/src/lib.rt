@@ -1,0 +1,3 @@
+// The stores of begin and write.
+
+pub mod staging;
