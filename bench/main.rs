@@ -18,6 +18,9 @@ mod timing;
 #[path = "../tests/outside/src/boundary.rs"]
 #[allow(dead_code)]
 mod boundary;
+#[path = "../host/src/boundary.rs"]
+#[allow(dead_code)]
+mod declarations;
 #[path = "../tests/outside/src/description.rs"]
 #[allow(dead_code)]
 mod description;

@@ -42,9 +42,9 @@ printf 'A sentence that cites nothing.\n' > "$pages/page.md"
 reports "$pages/page.md" 'claims: 0 citations, 0 wrong'
 
 # Nor may a page have the marks of a merge that was left half done.
-if grep -nE '^(<{7}|={7}|>{7})( |$)' README.md docs/*.md docs/landings/*.md; then
+if grep -nE '^(<{7}|={7}|>{7})( |$)' README.md host/*.md docs/*.md docs/landings/*.md; then
   echo 'claims: a page has the marks of a merge'
   exit 1
 fi
 
-python3 tests/claims.py docs/CLAIMS.md docs/TRUST.md docs/THEOREM.md
+python3 tests/claims.py docs/CLAIMS.md docs/TRUST.md docs/THEOREM.md docs/RELIABILITY.md

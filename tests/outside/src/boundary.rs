@@ -1,5 +1,5 @@
 //! The proved library behind its C boundary, made safe to call: a slice passes as a pointer and a length, counted in
-//! elements, a fixed array as a pointer.
+//! elements, a fixed array as a pointer. The declarations are those of `host/`.
 
 // With their paths, since bench/ takes this file in by its path and would look for them beside it.
 #[path = "boundary/blank.rs"]
@@ -7,6 +7,12 @@ mod blank;
 #[path = "boundary/names.rs"]
 mod names;
 
+use crate::declarations::{
+    teplovist_abandon, teplovist_begin, teplovist_commit, teplovist_commit_signed, teplovist_count_verified,
+    teplovist_digest_feed, teplovist_digest_finish, teplovist_digest_start, teplovist_faults, teplovist_open,
+    teplovist_open_signed, teplovist_read_committed, teplovist_read_staged, teplovist_revert, teplovist_revert_signed,
+    teplovist_signing_block, teplovist_signing_digest, teplovist_verified, teplovist_write,
+};
 use crate::description::Description;
 use crate::rules::aes::Key;
 use crate::rules::compression::Digest;
@@ -15,69 +21,6 @@ use crate::rules::running::RunningBytes;
 use crate::rules::session::SessionBytes;
 use crate::rules::signing::{BlockBytes, SignerNumbers};
 use crate::subject::Subject;
-
-extern "C" {
-    fn teplovist_open(image: *const u8, image_len: usize, description: *mut u64) -> u64;
-    fn teplovist_read_committed(
-        image: *const u8,
-        image_len: usize,
-        partition: u64,
-        place: u64,
-        buffer: *mut u8,
-        buffer_len: usize,
-    ) -> u64;
-    fn teplovist_read_staged(
-        image: *const u8,
-        image_len: usize,
-        session: *const u8,
-        partition: u64,
-        place: u64,
-        buffer: *mut u8,
-        buffer_len: usize,
-    ) -> u64;
-    fn teplovist_verified(image: *const u8, image_len: usize, partition: u64, block: u64) -> u64;
-    fn teplovist_count_verified(image: *const u8, image_len: usize, partition: u64) -> u64;
-    fn teplovist_begin(image: *mut u8, image_len: usize, session: *mut u8) -> u64;
-    fn teplovist_write(
-        image: *mut u8,
-        image_len: usize,
-        session: *mut u8,
-        partition: u64,
-        place: u64,
-        data: *const u8,
-        data_len: usize,
-    ) -> u64;
-    fn teplovist_commit(image: *mut u8, image_len: usize, session: *mut u8) -> u64;
-    fn teplovist_abandon(session: *mut u8) -> u64;
-    fn teplovist_open_signed(
-        image: *const u8,
-        image_len: usize,
-        key: *const u8,
-        signer: *const u64,
-        description: *mut u64,
-    ) -> u64;
-    fn teplovist_commit_signed(
-        image: *mut u8,
-        image_len: usize,
-        session: *mut u8,
-        key: *const u8,
-        signer: *const u64,
-    ) -> u64;
-    fn teplovist_revert(image: *mut u8, image_len: usize, session: *mut u8) -> u64;
-    fn teplovist_revert_signed(
-        image: *mut u8,
-        image_len: usize,
-        session: *mut u8,
-        key: *const u8,
-        signer: *const u64,
-    ) -> u64;
-    fn teplovist_faults(image: *const u8, image_len: usize, row: *mut FaultRecord, row_len: usize) -> u64;
-    fn teplovist_signing_block(image: *const u8, image_len: usize, signer: *const u64, block: *mut u8) -> u64;
-    fn teplovist_signing_digest(image: *const u8, image_len: usize, signer: *const u64, digest: *mut u8) -> u64;
-    fn teplovist_digest_start(state: *mut u8);
-    fn teplovist_digest_feed(state: *mut u8, piece: *const u8, piece_len: usize) -> u64;
-    fn teplovist_digest_finish(state: *const u8, digest: *mut u8) -> u64;
-}
 
 /// The proved library. Each call lends it slices and arrays of Rust's own for the call alone, of the lengths that it is
 /// told, so the calls are safe as long as the library keeps to its declarations.
@@ -181,7 +124,8 @@ impl Subject for Library {
     }
 
     fn faults(&self, image: &[u8], row: &mut [FaultRecord]) -> u64 {
-        unsafe { teplovist_faults(image.as_ptr(), image.len(), row.as_mut_ptr(), row.len()) }
+        // Its record is laid out as the boundary's: three numbers.
+        unsafe { teplovist_faults(image.as_ptr(), image.len(), row.as_mut_ptr().cast(), row.len()) }
     }
 
     fn signing_block(&self, image: &[u8], signer: &SignerNumbers, block: &mut BlockBytes) -> u64 {

@@ -12,3 +12,7 @@ pub mod rules;
 pub mod stores;
 pub mod subject;
 pub mod trial;
+
+// Under this name since bench/, which is built without cargo, takes the same file in by its path.
+#[cfg(feature = "gateway")]
+use teplovist::boundary as declarations;

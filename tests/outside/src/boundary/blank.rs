@@ -1,12 +1,8 @@
 //! The calls for blank images.
 
 use super::Library;
+use crate::declarations::{teplovist_blank_length, teplovist_make_blank};
 use crate::subject::blank::Blanks;
-
-extern "C" {
-    fn teplovist_blank_length(n: u64) -> u64;
-    fn teplovist_make_blank(image: *mut u8, image_len: usize, kind: u64, n: u64) -> u64;
-}
 
 impl Blanks for Library {
     fn blank_length(&self, blocks: u64) -> u64 {

@@ -1,13 +1,9 @@
 //! The calls for names inside a save.
 
 use super::Library;
+use crate::declarations::{teplovist_find_file, teplovist_list_names};
 use crate::rules::names::Name;
 use crate::subject::names::Names;
-
-extern "C" {
-    fn teplovist_list_names(image: *const u8, image_len: usize, row: *mut u8, row_len: usize) -> u64;
-    fn teplovist_find_file(image: *const u8, image_len: usize, folder: u64, name: *const u8) -> u64;
-}
 
 impl Names for Library {
     fn list_names(&self, image: &[u8], row: &mut [u8]) -> u64 {
