@@ -61,7 +61,7 @@ use std::process::ExitCode;
 use faults::Faults;
 use growth::Growth;
 use measures::World;
-use rows::{print_cells, print_head, Row, BLANK, DIGEST_OF_BLOCK, FRESH_WRITE, LONG_READ, LONG_WRITE, ROWS};
+use rows::{print_cells, print_head, Row, BLANK, COMMIT, DIGEST_OF_BLOCK, FRESH_WRITE, LONG_READ, LONG_WRITE, ROWS};
 
 const GROWTH: &str = "growth";
 const FAULTS: &str = "faults";
@@ -107,6 +107,7 @@ fn print_bars(rows: &[(&str, Row)], growth: Option<&Growth>, faults: Option<&Fau
         row(LONG_READ).map(|row| at_least("verified read of 4096 blocks, speed/(b)", row.speed_to_b(), 1.8)),
         row(LONG_WRITE).and_then(Row::time_to_a).map(|ratio| at_most("write of 64 blocks, time/(a)", ratio, 0.25)),
         row(FRESH_WRITE).and_then(Row::time_to_a).map(|ratio| at_most("64 blocks on fresh ground, time/(a)", ratio, 0.25)),
+        row(COMMIT).and_then(Row::time_to_a).map(|ratio| at_most("commit, time/(a)", ratio, 1.0)),
         row(BLANK).map(|row| at_most("blank image of 4096 blocks, time/(b)", 1.0 / row.speed_to_b(), 1.5)),
         growth.map(|growth| at_most("write of 1 byte, 64 MiB to 1 MiB", growth.of_writes(), 1.2)),
         faults.map(|faults| at_most("fault list, each block, 64 MiB to 1 MiB", faults.per_block(), 1.5)),

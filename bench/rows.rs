@@ -7,6 +7,7 @@ pub const DIGEST_OF_BLOCK: &str = "digest of 4 KiB";
 pub const LONG_READ: &str = "verified read of 4096 blocks";
 pub const LONG_WRITE: &str = "write of 64 blocks";
 pub const FRESH_WRITE: &str = "64 blocks on fresh ground";
+pub const COMMIT: &str = "commit";
 pub const BLANK: &str = "blank image of 4096 blocks";
 
 /// A row's name, and how it is measured; nothing comes of it if openssl is missing.
@@ -28,7 +29,7 @@ pub const ROWS: [(&str, fn(&World) -> Option<Row>); 21] = [
     (FRESH_WRITE, |world| world.fresh_write(WRITTEN, 64 * BLOCK)),
     ("64 first writes of 1 block", |world| world.writes(64, BLOCK, BLOCK)),
     ("4096 first writes of 1 byte", |world| world.writes(4096, 1, 64)),
-    ("commit", |world| world.commit()),
+    (COMMIT, |world| world.commit()),
     ("listing of 10,000 files", |world| world.listing(10_000)),
     ("finding 1 of 10,000 files", |world| world.finding(10_000)),
     (BLANK, |world| world.blank()),

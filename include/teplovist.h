@@ -207,7 +207,8 @@ typedef struct {
  * The fault list: every block of levels 1 to 4 of every partition that is not verified, as the active table has it; below a hash block that is not
  * verified each block is a fault. Partition A comes first, then the levels from 1 up, then the blocks by number. The row, of row_length records,
  * gets the first ones, as far as it goes; records past the last fault are left alone. The value of the answer is the number of all faults, also
- * where the row is shorter. Refusals: only those of opening; the row is untouched then.
+ * where the row is shorter. Each block is hashed once at most. It needs less than half a megabyte of stack, for its marks. Refusals: only those of
+ * opening; the row is untouched then.
  */
 uint64_t teplovist_faults(const uint8_t *image, size_t image_length, teplovist_fault *row, size_t row_length);
 

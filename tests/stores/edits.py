@@ -5,6 +5,7 @@ BEGINNING = 'steps/src/beginning.rt'
 COMMITTING = 'commits/src/lib.rt'
 STAGING = 'stores/src/staging.rt'
 SESSIONS = 'container/src/sessions.rt'
+ENTERING = 'steps/src/entering.rt'
 RUNS = 'number/src/runs.rt'
 GATEWAY = 'gateway/src/lib.rt'
 MAKING = 'blank/src/making.rt'
@@ -31,9 +32,8 @@ SWITCHED = lines('switch_tables(image, c);')
 HEADER_STORED = lines('store_header(image, next);')
 SIGNATURE_STORED = lines('copy_into(image, 0, &signature);')
 SIGNED = lines('switch_signed(image, c, key, signer);')
-JUDGED = lines('if !is_revertible(image, former, later) {', '    return refused(session, Refusal::NothingToRevert);', '}')
 RESTORED = lines('restore(image, former);')
-SIGNED_BACK = lines('restore_signed(image, former, key, signer);')
+SIGNED_BACK = lines('restore_signed(image, restored, key, signer);')
 PUT = lines('put_level(space, view, image, 4, x, values);')
 NEW = '// A session that remembers nothing.\n'
 STAGE_IMAGE = "// And each partition's other half"
@@ -144,6 +144,15 @@ OTHER_SPACES = [
     ('a container of a part of the image', 'container::sessions::begin: is to open its image, whole and once', {SESSIONS: [(
         'calls.begin (now (image .entry)) session) ⌝ }\n{\n    let answer = open(image);',
         'calls.begin (now (image .entry)) session) ⌝ }\n{\n    let answer = open(&image[1..]);')]}),
+    ('a session entered on a part of the image', 'container::sessions::write: is to open its image, whole and once', {SESSIONS: [(
+        'partition place (now (bytes .entry))) ⌝ }\n{\n    let answer = enter(image, session);',
+        'partition place (now (bytes .entry))) ⌝ }\n{\n    let answer = enter(&image[1..], session);')]}),
+    ('an entering that opens a part of the image', 'steps::entering::enter: is to open its image, whole and once', {ENTERING: [(
+        'Enters (now (image .entry)) session r ⌝ }\n{\n    let answer = open(image);',
+        'Enters (now (image .entry)) session r ⌝ }\n{\n    let answer = open(&image[1..]);')]}),
+    ('a step back that opens twice', 'steps::entering::enter_back: is to open its image, whole and once', {ENTERING: [(
+        'StepsBack (now (image .entry)) session r ⌝ }\n{\n    let answer = open(image);',
+        'StepsBack (now (image .entry)) session r ⌝ }\n{\n    let _first = open(image);\n    let answer = open(image);')]}),
 ]
 
 ONE_HEADER = 'commit: commits::store_header is to have the image from one call'
@@ -227,8 +236,8 @@ OTHER_PLACES = [
 TWICE_BACK = 'revert: commits::restore is to have the image from one call'
 
 OTHER_REVERTS = [
-    ('a revert that tries the former header by storing it', TWICE_BACK, {SESSIONS: [(JUDGED + RESTORED, lines(
-        'restore(image, former);', 'let tried = open(image);', 'let Opened::Valid(_d) = tried else {', '    restore(image, later);',
+    ('a revert that tries the former header by storing it', TWICE_BACK, {SESSIONS: [(RESTORED, lines(
+        'let later = session.later;', 'restore(image, former);', 'let tried = open(image);', 'let Opened::Valid(_d) = tried else {', '    restore(image, later);',
         '    return refused(session, Refusal::NothingToRevert);', '};'))]}),
     ('a revert that stores twice', TWICE_BACK, {SESSIONS: [after(RESTORED, 'restore(image, former);')]}),
     ('a revert of two headers', 'revert: commits::store_header is to have the image from one call', {COMMITTING: [before(
@@ -240,9 +249,9 @@ OTHER_REVERTS = [
         RESTORED, 'let at = layout::tables::inactive_range(_c.header).offset;', 'let value = image[at as usize];',
         'stores::staging::store(space_of(_c), image, at, 0);', 'stores::staging::store(space_of(_c), image, at, value);')]}),
     ('a signed revert that stores twice', 'revert_signed: commits::restore_signed is to have the image from one call', {
-        SESSIONS: [after(SIGNED_BACK, 'restore_signed(image, former, key, signer);')]}),
+        SESSIONS: [after(SIGNED_BACK, 'restore_signed(image, restored, key, signer);')]}),
     ('a signed revert that stores the header before', 'revert_signed reaches commits::restore', {
-        SESSIONS: [before(SIGNED_BACK, 'restore(image, former);')]}),
+        SESSIONS: [before(SIGNED_BACK, 'restore(image, restored);')]}),
     ('a revert that signs', 'revert reaches commits::restore_signed', {SESSIONS: [before(
         RESTORED, 'restore_signed(image, former, [0u8; 16], Signer::Card);')]}),
     ('a commit that goes back', 'commit reaches commits::restore', {SESSIONS: [after(SWITCHED, 'restore(image, header);')]}),
@@ -251,7 +260,7 @@ OTHER_REVERTS = [
         'let layout::Opened::Valid(other) = answer else {', '    return;', '};',
         'store(views::places::space_of(other), image, 0, 0);')),
     ('a revert that opens another image', 'revert: container::sessions::revert has a container from layout::opening::open_under', {
-        SESSIONS: [(JUDGED + RESTORED, lines(
+        SESSIONS: [(RESTORED, lines(
             'let under = layout::opening::open_under(image, &former);', 'let Opened::Valid(_d) = under else {',
             '    return refused(session, Refusal::NothingToRevert);', '};') + RESTORED)]}),
 ]

@@ -22,6 +22,8 @@ from mir import Assign
 STORE = 'stores::staging::store'
 OUTSIDE = 'update::store_outside'
 OPEN = 'layout::opening::open'
+ENTER = 'steps::entering::enter'
+ENTER_BACK = 'steps::entering::enter_back'
 COPY = 'number::runs::copy_into'
 PUT_LEVEL = 'update::put_level'
 
@@ -33,6 +35,9 @@ UNITS = {
     'revert_signed': (['commits::restore_signed', 'commits::store_signed'], 2),
 }
 SESSION_CALLS = ['begin', 'write', *UNITS]
+
+# By what each call opens its image: by opening itself, or by a function that opens the image which it is lent, and then looks at the session.
+OPENERS = {'begin': OPEN, 'write': ENTER, 'commit': ENTER, 'commit_signed': ENTER, 'revert': ENTER_BACK, 'revert_signed': ENTER_BACK}
 
 # The functions in which the other calls on a session store to the image, which each has as its parameter 2.
 STORES = {'begin': [STORE], 'write': [STORE, OUTSIDE]}
@@ -396,17 +401,23 @@ class Findings:
 
     def opened_image(self, name):
         """The container of a call is what opening gives of its own image, whole."""
-        root = f'container::sessions::{name}'
-        function = self.program.function(root)
-        opened = [call.arguments[0] for call in function.calls() if call.callee == OPEN]
-        good = len(opened) == 1 and opened[0] and not opened[0].steps and opened[0].local in whole_slices(function, 1)
-        self.rule(good, f'{root}: is to open its image, whole and once')
+        way = [f'container::sessions::{name}', *dict.fromkeys([OPENERS[name], OPEN])]
+        steps = list(zip(way, way[1:]))
+        for caller, callee in steps:
+            self.opens_whole(caller, callee)
         for caller in map(self.program.function, sorted(self.program.reached_from([f'gateway::teplovist_{name}']))):
             for call in caller.calls():
                 result = self.program.function(call.callee).locals[0]
                 if caller.crate() != 'layout' and self.types.holds(result, ('named', 'layout::Container')):
-                    known = {(root, OPEN), *OPENED_UNDER.get(name, [])}
+                    known = {*steps, *OPENED_UNDER.get(name, [])}
                     self.rule((caller.name, call.callee) in known, f'{name}: {caller.name} has a container from {call.callee}')
+
+    def opens_whole(self, caller, callee):
+        """A function hands its image on to be opened, whole and once."""
+        function = self.program.function(caller)
+        opened = [call.arguments[0] for call in function.calls() if call.callee == callee]
+        good = len(opened) == 1 and opened[0] and not opened[0].steps and opened[0].local in whole_slices(function, 1)
+        self.rule(good, f'{caller}: is to open its image, whole and once')
 
     def guarded_types(self):
         for guarded, makers in MAKERS.items():

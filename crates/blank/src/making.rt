@@ -8,6 +8,8 @@ use steps::Ending;
 ghost use mathlib.Core.Path.{_≡_};
 ghost use Prim.Native.Nat.{ℕ};
 ghost use lib.ListN.{length};
+ghost use Rattle.layout.specs.Refusals.{Answers};
+ghost use Rattle.steps.specs.Answers.{endingSays};
 ghost use Rattle.blank.specs.Image.{zeros};
 ghost use Rattle.blank.specs.Making.{blankLength, made};
 
@@ -32,7 +34,7 @@ fn clear(image: &mut [u8])
 // Makes the lent image a blank one with n blocks in level 4. It is untouched if n is out of range or it is not just that long (20), and all
 // zero if a digest would be (17).
 pub fn make_blank(image: &mut [u8], kind: Kind, n: u64) -> Ending
-    ensures { λ r. ⌜ (r ≡ made (now (image .entry)) kind n .outcome) × (now (image .exit) ≡ made (now (image .entry)) kind n .image) ⌝ }
+    ensures { λ r. ⌜ (Answers endingSays r (made (now (image .entry)) kind n .outcome)) × (now (image .exit) ≡ made (now (image .entry)) kind n .image) ⌝ }
 {
     if !blocks_allowed(n) {
         return Ending::Refused(Refusal::BlankSize);

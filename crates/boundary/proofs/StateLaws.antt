@@ -22,7 +22,8 @@ use Rattle.signing.specs.Blocks.{fieldBytes}
 use Rattle.signing.specs.Digests.{Feeds, Finishes}
 use Rattle.signing.specs.Placing.{numberOf}
 use Rattle.signing.proofs.FieldLaws.{reads-back}
-use Rattle.boundary.specs.Boundary.{outcomeAnswer}
+use Rattle.layout.specs.Refusals.{outcomeSays}
+use Rattle.boundary.specs.Boundary.{packed}
 use Rattle.boundary.specs.Digests.{runningOf, StateLeft, FedBytes, digestKept, FinishedBytes}
 
 -- ---- a field reads back, and stays where something behind it is stored
@@ -156,16 +157,16 @@ stored (Refused r) before piece after running feeds e = go (decLt longest (runni
   where
     go : Dec (longest < runningOf before .total + length piece) → runningOf after ≡ running
     go (yes l) = ap runningOf e ∙ sym (feeds .refused l .1)
-    go (no l) = never r (feeds .accepted (omega arith) .0)
+    go (no l) = never r (feeds .accepted (omega arith) .0 .case)
 
 pub fed-bytes : {answer : ℕ} {before piece after : List ℕ} (running : Running) (fed : Fed) → running ≡ runningOf before → Feeds running piece fed
-    → answer ≡ outcomeAnswer (fed .outcome) → StateLeft (fed .outcome) (fed .running) before after → FedBytes answer before piece after
+    → answer ≡ packed (outcomeSays (fed .outcome)) → StateLeft (fed .outcome) (fed .running) before after → FedBytes answer before piece after
 fed-bytes {before = before} {piece = piece} {after = after} running fed e f a l =
     let feeds : Feeds (runningOf before) piece fed = subst (λ (r : Running). Feeds r piece fed) e f in
     record { fed = fed; feeds = feeds; outcome = a; stored = stored (fed .outcome) before piece after (fed .running) feeds l; left = l }
 
 pub finished-bytes : {answer : ℕ} {state before after : List ℕ} (running : Running) (finished : Finished) → running ≡ runningOf state
-    → Finishes running finished → answer ≡ outcomeAnswer (finished .outcome) → after ≡ digestKept (finished .outcome) before (finished .digest)
+    → Finishes running finished → answer ≡ packed (outcomeSays (finished .outcome)) → after ≡ digestKept (finished .outcome) before (finished .digest)
     → FinishedBytes answer state before after
 finished-bytes running finished e f a l =
     record { finished = finished; finishes = subst (λ (r : Running). Finishes r finished) e f; outcome = a; left = l }

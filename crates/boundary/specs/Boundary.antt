@@ -18,69 +18,21 @@ use Rattle.layout.specs.declared.Partition.{Partition}
 use Rattle.layout.specs.declared.Second.{Second}
 use Rattle.layout.specs.declared.Second.the-variants.{Missing, There}
 use Rattle.layout.specs.declared.Container.{Container}
-use Rattle.layout.specs.declared.Refusal.{Refusal}
 use Rattle.layout.specs.declared.Opened.{Opened}
 use Rattle.layout.specs.declared.Opened.the-variants as opening
-use Rattle.layout.specs.Refusals.{number, carried}
-use Rattle.layout.specs.declared.Outcome.{Outcome}
-use Rattle.layout.specs.declared.Outcome.the-variants as outcome
-use Rattle.steps.specs.declared.Verdict.{Verdict}
-use Rattle.steps.specs.declared.Verdict.the-variants as verdict
-use Rattle.steps.specs.declared.Count.{Count}
-use Rattle.steps.specs.declared.Count.the-variants as count
+use Rattle.layout.specs.Refusals.{Said}
 use Rattle.steps.specs.declared.Ending.{Ending}
 use Rattle.steps.specs.declared.Ending.the-variants as ending
 use Rattle.steps.specs.declared.Session.{Session}
-use Rattle.save.specs.declared.Listed.{Listed}
-use Rattle.save.specs.declared.Listed.the-variants as listed
-use Rattle.save.specs.declared.Sought.{Sought}
-use Rattle.save.specs.declared.Sought.the-variants as sought
+use Rattle.steps.specs.Answers.{endingSays}
 use Rattle.steps.specs.Calls.{After}
 
 -- ---- an answer is one number of 64 bits
 
--- the low 8 bits are the refusal's number, 0 if accepted; the bits above carry the value. A block's number or a count is below 2^30, so the
+-- the low 8 bits are the number that the answer says; the bits above carry its value. A block's number or a count is below 2^30, so the
 -- remainder changes nothing; it makes the rule total
-unfoldable pub packed : (number value : ℕ) → ℕ
-packed number value = number % 2 ^ 8 + 2 ^ 8 * (value % 2 ^ 56)
-
-unfoldable pub refusedAnswer : Refusal → ℕ
-refusedAnswer r = packed (number r) (carried r)
-
-abbrev pub outcomeAnswer : Outcome → ℕ
-outcomeAnswer outcome.Accepted = packed 0 0
-outcomeAnswer (outcome.Refused r) = refusedAnswer r
-
--- a call that is dropped is refusal 17
-abbrev pub endingAnswer : Ending → ℕ
-endingAnswer ending.Accepted = packed 0 0
-endingAnswer (ending.Refused r) = refusedAnswer r
-endingAnswer ending.Dropped = packed 17 0
-
--- 1 for yes, 0 for no
-abbrev pub verdictAnswer : Verdict → ℕ
-verdictAnswer verdict.Yes = packed 0 1
-verdictAnswer verdict.No = packed 0 0
-verdictAnswer (verdict.Refused r) = refusedAnswer r
-
-abbrev pub countAnswer : Count → ℕ
-countAnswer (count.Blocks n) = packed 0 n
-countAnswer (count.Refused r) = refusedAnswer r
-
-abbrev pub openedAnswer : Opened → ℕ
-openedAnswer (opening.Valid c) = packed 0 0
-openedAnswer (opening.Refused r) = refusedAnswer r
-
--- how many names there are
-abbrev pub listedAnswer : Listed → ℕ
-listedAnswer (listed.Names n) = packed 0 n
-listedAnswer (listed.Refused r) = refusedAnswer r
-
--- the file's entry number, which is never 0; 0 for none
-abbrev pub soughtAnswer : Sought → ℕ
-soughtAnswer (sought.File f) = packed 0 f
-soughtAnswer sought.Nothing = packed 0 0
-soughtAnswer (sought.Refused r) = refusedAnswer r
+unfoldable pub packed : Said → ℕ
+packed said = said .number % 2 ^ 8 + 2 ^ 8 * (said .value % 2 ^ 56)
 
 -- ---- a session is 513 bytes: 0 for idle and anything else for begun, then the two headers that it remembers
 
@@ -104,7 +56,7 @@ writeLeft ending.Dropped before session = sessionBytes session
 
 -- what a call on a session answers, and the image and the session's bytes that it leaves
 pub record Called (left : Ending → (before : List ℕ) → Session → List ℕ) (answer : ℕ) (image : List ℕ) (before bytes : List ℕ) (after : After) : Type 0 where
-  pub outcome : answer ≡ endingAnswer (after .outcome)
+  pub outcome : answer ≡ packed (endingSays (after .outcome))
   pub stored : image ≡ after .image
   pub session : bytes ≡ left (after .outcome) before (after .session)
 

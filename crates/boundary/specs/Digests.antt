@@ -8,10 +8,11 @@ use Rattle.number.specs.Fields.{le32, le64}
 use Rattle.sha256.specs.declared.running.Running.{Running}
 use Rattle.layout.specs.declared.Outcome.{Outcome}
 use Rattle.layout.specs.declared.Outcome.the-variants.{Accepted, Refused}
+use Rattle.layout.specs.Refusals.{outcomeSays}
 use Rattle.signing.specs.declared.digests.Fed.{Fed}
 use Rattle.signing.specs.declared.digests.Finished.{Finished}
 use Rattle.signing.specs.Digests.{Feeds, Finishes}
-use Rattle.boundary.specs.Boundary.{outcomeAnswer}
+use Rattle.boundary.specs.Boundary.{packed}
 
 -- the eight words of the hash value, the block whose front waits, and the count of all bytes, the least significant byte first; any bytes are one
 unfoldable pub runningOf : List ℕ → Running
@@ -26,7 +27,7 @@ StateLeft (Refused r) running before after = after ≡ before
 pub record FedBytes (answer : ℕ) (before piece after : List ℕ) : Type 0 where
   pub fed : Fed
   pub feeds : Feeds (runningOf before) piece fed
-  pub outcome : answer ≡ outcomeAnswer (fed .outcome)
+  pub outcome : answer ≡ packed (outcomeSays (fed .outcome))
   pub stored : runningOf after ≡ fed .running
   pub left : StateLeft (fed .outcome) (fed .running) before after
 
@@ -39,5 +40,5 @@ digestKept (Refused r) before digest = before
 pub record FinishedBytes (answer : ℕ) (state before after : List ℕ) : Type 0 where
   pub finished : Finished
   pub finishes : Finishes (runningOf state) finished
-  pub outcome : answer ≡ outcomeAnswer (finished .outcome)
+  pub outcome : answer ≡ packed (outcomeSays (finished .outcome))
   pub left : after ≡ digestKept (finished .outcome) before (finished .digest)

@@ -1,15 +1,12 @@
--- How signers and the answers to them pass the C boundary.
+-- How signers pass the C boundary.
 use Prim.Native.Nat.{ℕ, _%_, _^_}
 use mathlib.Core.Bool.{cond}
 use mathlib.Core.List.{List}
 use lib.ListN.{getD}
 use lib.Dec.{eqb}
-use Rattle.signing.specs.declared.Built.{Built}
-use Rattle.signing.specs.declared.Built.the-variants as built
 use Rattle.signing.specs.declared.ExtdataFile.the-variants.{Quota, Device}
 use Rattle.signing.specs.declared.Signer.{Signer}
 use Rattle.signing.specs.declared.Signer.the-variants.{Card, Title, System, Extdata, Database}
-use Rattle.boundary.specs.Boundary.{packed, refusedAnswer}
 
 -- an ID of 32 bits
 abbrev pub word : ℕ → ℕ
@@ -28,8 +25,3 @@ signerAs type id file folder =
 -- a signer is 4 numbers; the type counts modulo 6, so that any four are a signer
 abbrev pub signerOf : List ℕ → Signer
 signerOf numbers = signerAs (getD numbers 0 0 % 6) (getD numbers 1 0) (getD numbers 2 0) (getD numbers 3 0)
-
--- the block's length is the value
-abbrev pub builtAnswer : Built → ℕ
-builtAnswer (built.Bytes n) = packed 0 n
-builtAnswer (built.Refused r) = refusedAnswer r

@@ -11,23 +11,26 @@ use steps::Count;
 use steps::Ending;
 use steps::Verdict;
 ghost use mathlib.Core.Path.{_≡_};
-ghost use Rattle.boundary.specs.Boundary.{packed, refusedAnswer, outcomeAnswer, endingAnswer, verdictAnswer, countAnswer, openedAnswer, listedAnswer, soughtAnswer};
-ghost use Rattle.boundary.specs.Signers.{builtAnswer};
+ghost use Rattle.layout.specs.Refusals.{refuses, outcomeSays, openedSays};
+ghost use Rattle.signing.specs.Calls.{builtSays};
+ghost use Rattle.steps.specs.Answers.{verdictSays, countSays, endingSays};
+ghost use Rattle.save.specs.Answers.{listedSays, soughtSays};
+ghost use Rattle.boundary.specs.Boundary.{packed};
 
 fn pack(number: u64, value: u64) -> u64
-    ensures { λ r. ⌜ r ≡ packed number value ⌝ }
+    ensures { λ r. ⌜ r ≡ packed (record { number = number; value = value }) ⌝ }
 {
     number % 0x100 + 0x100 * (value % 0x100_0000_0000_0000)
 }
 
 fn refused_answer(refusal: Refusal) -> u64
-    ensures { λ r. ⌜ r ≡ refusedAnswer refusal ⌝ }
+    ensures { λ r. ⌜ r ≡ packed (refuses refusal) ⌝ }
 {
     pack(number_of(refusal), carried_by(refusal))
 }
 
 pub fn outcome_answer(outcome: Outcome) -> u64
-    ensures { λ r. ⌜ r ≡ outcomeAnswer outcome ⌝ }
+    ensures { λ r. ⌜ r ≡ packed (outcomeSays outcome) ⌝ }
 {
     match outcome {
         Outcome::Accepted => pack(0, 0),
@@ -37,7 +40,7 @@ pub fn outcome_answer(outcome: Outcome) -> u64
 
 // A dropped call is refusal 17.
 pub fn ending_answer(ending: Ending) -> u64
-    ensures { λ r. ⌜ r ≡ endingAnswer ending ⌝ }
+    ensures { λ r. ⌜ r ≡ packed (endingSays ending) ⌝ }
 {
     match ending {
         Ending::Accepted => pack(0, 0),
@@ -48,7 +51,7 @@ pub fn ending_answer(ending: Ending) -> u64
 
 // 1 for yes, 0 for no.
 pub fn verdict_answer(verdict: Verdict) -> u64
-    ensures { λ r. ⌜ r ≡ verdictAnswer verdict ⌝ }
+    ensures { λ r. ⌜ r ≡ packed (verdictSays verdict) ⌝ }
 {
     match verdict {
         Verdict::Yes => pack(0, 1),
@@ -58,7 +61,7 @@ pub fn verdict_answer(verdict: Verdict) -> u64
 }
 
 pub fn count_answer(count: Count) -> u64
-    ensures { λ r. ⌜ r ≡ countAnswer count ⌝ }
+    ensures { λ r. ⌜ r ≡ packed (countSays count) ⌝ }
 {
     match count {
         Count::Blocks(n) => pack(0, n),
@@ -67,7 +70,7 @@ pub fn count_answer(count: Count) -> u64
 }
 
 pub fn opened_answer(answer: Opened) -> u64
-    ensures { λ r. ⌜ r ≡ openedAnswer answer ⌝ }
+    ensures { λ r. ⌜ r ≡ packed (openedSays answer) ⌝ }
 {
     match answer {
         Opened::Valid(_) => pack(0, 0),
@@ -77,7 +80,7 @@ pub fn opened_answer(answer: Opened) -> u64
 
 // How many names there are.
 pub fn listed_answer(listed: Listed) -> u64
-    ensures { λ r. ⌜ r ≡ listedAnswer listed ⌝ }
+    ensures { λ r. ⌜ r ≡ packed (listedSays listed) ⌝ }
 {
     match listed {
         Listed::Names(n) => pack(0, n),
@@ -87,7 +90,7 @@ pub fn listed_answer(listed: Listed) -> u64
 
 // The file's entry number, 0 for none.
 pub fn sought_answer(sought: Sought) -> u64
-    ensures { λ r. ⌜ r ≡ soughtAnswer sought ⌝ }
+    ensures { λ r. ⌜ r ≡ packed (soughtSays sought) ⌝ }
 {
     match sought {
         Sought::File(f) => pack(0, f),
@@ -98,7 +101,7 @@ pub fn sought_answer(sought: Sought) -> u64
 
 // The block's length.
 pub fn built_answer(built: Built) -> u64
-    ensures { λ r. ⌜ r ≡ builtAnswer built ⌝ }
+    ensures { λ r. ⌜ r ≡ packed (builtSays built) ⌝ }
 {
     match built {
         Built::Bytes(n) => pack(0, n),

@@ -7,11 +7,12 @@ use signing::answers::judge_signer;
 use signing::blocks::block_digest;
 use signing::blocks::build;
 ghost use mathlib.Core.Path.{_≡_};
-ghost use Rattle.signing.specs.Calls.{signed, outcomeOf, builtAs, blockLeft, digestLeft};
+ghost use Rattle.layout.specs.Refusals.{Answers, outcomeSays};
+ghost use Rattle.signing.specs.Calls.{signed, outcomeOf, builtAs, builtSays, blockLeft, digestLeft};
 
 // The block that a signer signs of an image, at the front of the lent bytes, with its length.
 pub fn signing_block(image: &[u8], signer: Signer, block: &mut [u8; 284]) -> Built
-    ensures { λ r. ⌜ (r ≡ builtAs (signed (now (image .entry)) signer)) × (now (block .exit) ≡ blockLeft (signed (now (image .entry)) signer) (now (block .entry))) ⌝ }
+    ensures { λ r. ⌜ (Answers builtSays r (builtAs (signed (now (image .entry)) signer))) × (now (block .exit) ≡ blockLeft (signed (now (image .entry)) signer) (now (block .entry))) ⌝ }
 {
     match judge_signer(image, signer) {
         Outcome::Accepted => {
@@ -27,7 +28,7 @@ pub fn signing_block(image: &[u8], signer: Signer, block: &mut [u8; 284]) -> Bui
 
 // Its SHA-256, which is what is signed.
 pub fn signing_digest(image: &[u8], signer: Signer, out: &mut [u8; 32]) -> Outcome
-    ensures { λ r. ⌜ (r ≡ outcomeOf (signed (now (image .entry)) signer)) × (now (out .exit) ≡ digestLeft (signed (now (image .entry)) signer) (now (out .entry))) ⌝ }
+    ensures { λ r. ⌜ (Answers outcomeSays r (outcomeOf (signed (now (image .entry)) signer))) × (now (out .exit) ≡ digestLeft (signed (now (image .entry)) signer) (now (out .entry))) ⌝ }
 {
     let outcome = judge_signer(image, signer);
     let Outcome::Accepted = outcome else {

@@ -16,13 +16,15 @@ use steps::Step;
 use steps::answers::has_partition;
 use steps::answers::refusal_of;
 use steps::beginning::stage_image;
-use steps::reverting::is_revertible;
-use steps::staleness::is_current;
+use steps::entering::enter;
+use steps::entering::enter_back;
 use steps::writing::idle_session;
 use steps::writing::refused;
 use steps::writing::write_partition;
 use views::places::space_of;
 ghost use mathlib.Core.Path.{_≡_};
+ghost use Rattle.layout.specs.Refusals.{Answers};
+ghost use Rattle.steps.specs.Answers.{endingSays};
 ghost use Rattle.steps.specs.Sessions.{idle};
 ghost use Rattle.steps.specs.Calls as calls;
 ghost use Rattle.steps.specs.Calls.{Stepped};
@@ -61,16 +63,10 @@ pub fn begin(image: &mut [u8], session: Session) -> Step
 pub fn write(image: &mut [u8], session: Session, partition: u64, place: u64, bytes: &[u8]) -> Step
     ensures { λ r. ⌜ Stepped r (now (image .exit)) (calls.write (now (image .entry)) session partition place (now (bytes .entry))) ⌝ }
 {
-    let answer = open(image);
+    let answer = enter(image, session);
     let Opened::Valid(c) = answer else {
         return refused(session, refusal_of(answer));
     };
-    if !session.begun {
-        return refused(session, Refusal::SessionState);
-    }
-    if !is_current(image, c, session) {
-        return refused(session, Refusal::Stale);
-    }
     if !has_partition(c, partition) {
         return refused(session, Refusal::NoPartition);
     }
@@ -81,16 +77,10 @@ pub fn write(image: &mut [u8], session: Session, partition: u64, place: u64, byt
 pub fn commit(image: &mut [u8], session: Session) -> Step
     ensures { λ r. ⌜ Stepped r (now (image .exit)) (calls.commit (now (image .entry)) session) ⌝ }
 {
-    let answer = open(image);
+    let answer = enter(image, session);
     let Opened::Valid(c) = answer else {
         return refused(session, refusal_of(answer));
     };
-    if !session.begun {
-        return refused(session, Refusal::SessionState);
-    }
-    if !is_current(image, c, session) {
-        return refused(session, Refusal::Stale);
-    }
     let header = header_of(image);
     switch_tables(image, c);
     let later = header_of(image);
@@ -108,16 +98,10 @@ pub fn commit(image: &mut [u8], session: Session) -> Step
 pub fn commit_signed(image: &mut [u8], session: Session, key: [u8; 16], signer: Signer) -> Step
     ensures { λ r. ⌜ Stepped r (now (image .exit)) (calls.commitSigned (now (image .entry)) session key signer) ⌝ }
 {
-    let answer = open(image);
+    let answer = enter(image, session);
     let Opened::Valid(c) = answer else {
         return refused(session, refusal_of(answer));
     };
-    if !session.begun {
-        return refused(session, Refusal::SessionState);
-    }
-    if !is_current(image, c, session) {
-        return refused(session, Refusal::Stale);
-    }
     match judge_signer(image, signer) {
         Outcome::Refused(refusal) => refused(session, refusal),
         Outcome::Accepted => {
@@ -140,18 +124,11 @@ pub fn commit_signed(image: &mut [u8], session: Session, key: [u8; 16], signer: 
 pub fn revert(image: &mut [u8], session: Session) -> Step
     ensures { λ r. ⌜ Stepped r (now (image .exit)) (calls.revert (now (image .entry)) session) ⌝ }
 {
-    let answer = open(image);
+    let answer = enter_back(image, session);
     let Opened::Valid(_c) = answer else {
         return refused(session, refusal_of(answer));
     };
-    if session.begun {
-        return refused(session, Refusal::SessionState);
-    }
     let former = session.header;
-    let later = session.later;
-    if !is_revertible(image, former, later) {
-        return refused(session, Refusal::NothingToRevert);
-    }
     restore(image, former);
     Step {
         outcome: Ending::Accepted,
@@ -163,22 +140,15 @@ pub fn revert(image: &mut [u8], session: Session) -> Step
 pub fn revert_signed(image: &mut [u8], session: Session, key: [u8; 16], signer: Signer) -> Step
     ensures { λ r. ⌜ Stepped r (now (image .exit)) (calls.revertSigned (now (image .entry)) session key signer) ⌝ }
 {
-    let answer = open(image);
+    let answer = enter_back(image, session);
     let Opened::Valid(_c) = answer else {
         return refused(session, refusal_of(answer));
     };
-    if session.begun {
-        return refused(session, Refusal::SessionState);
-    }
-    let former = session.header;
-    let later = session.later;
-    if !is_revertible(image, former, later) {
-        return refused(session, Refusal::NothingToRevert);
-    }
+    let restored = session.header;
     match judge_signer(image, signer) {
         Outcome::Refused(refusal) => refused(session, refusal),
         Outcome::Accepted => {
-            restore_signed(image, former, key, signer);
+            restore_signed(image, restored, key, signer);
             Step {
                 outcome: Ending::Accepted,
                 session: new(),
@@ -189,7 +159,7 @@ pub fn revert_signed(image: &mut [u8], session: Session, key: [u8; 16], signer: 
 
 // Ends a session without a look at the image: what it staged is forgotten.
 pub fn abandon(session: Session) -> Step
-    ensures { λ r. ⌜ (r .outcome ≡ calls.abandon session .outcome) × (r .session ≡ calls.abandon session .session) ⌝ }
+    ensures { λ r. ⌜ (Answers endingSays (r .outcome) (calls.abandon session .outcome)) × (r .session ≡ calls.abandon session .session) ⌝ }
 {
     if !session.begun {
         return refused(session, Refusal::SessionState);

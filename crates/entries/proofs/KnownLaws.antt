@@ -10,8 +10,7 @@ use lib.Dec.{eqb}
 use borrow.Author.Tests.{eq-eqb, ne-eqb, eqb-true}
 use Rattle.ivfc.specs.declared.View.{View}
 use Rattle.ivfc.specs.Views.{verified}
-use Rattle.names.specs.Marks.{marked}
-use Rattle.names.specs.Walks.{Marks}
+use Rattle.number.specs.Marks.{marked, Marks}
 use Rattle.entries.specs.Known.{markOf, Adds, Knows}
 
 pub mark-data : (i b : ℕ) → i ≡ 4 → 2 * b ≡ markOf i b

@@ -9,7 +9,7 @@ use lib.ListN.{length}
 use Rattle.ivfc.specs.declared.View.{View}
 use Rattle.ivfc.specs.Views.{verified}
 use Rattle.ivfc.specs.Rules.{ViewRules}
-use Rattle.names.specs.Marks.{marked}
+use Rattle.number.specs.Marks.{marked}
 
 -- the mark of block b of level i: level 4 has the even ones, the hash levels share the odd ones
 unfoldable pub markOf : (i b : ℕ) → ℕ

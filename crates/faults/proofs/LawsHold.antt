@@ -27,7 +27,7 @@ use Rattle.steps.specs.Reading.{said, verdictOn, countIn}
 use Rattle.steps.specs.Calls.{verifiedIn, isVerified, countVerifiedIn, countVerified}
 use Rattle.faults.specs.declared.Fault.{Fault}
 use Rattle.faults.specs.Faults.{blocksFrom, levelsFrom, partitionsFrom, allBlocks, isFault, kept, faultsOf, faultsIn, faults}
-use Rattle.faults.specs.Searching.{blocksIn}
+use Rattle.faults.specs.Marking.{blocksIn}
 use Rattle.faults.specs.Laws.{Listed, Before, All, Rising, ofLevel, FaultLaws}
 use Rattle.faults.proofs.ListLaws.{at, kept-yes, kept-no}
 use Rattle.faults.proofs.LevelLaws.{all-append, all-kept, all-blocks, all-levels, all-partitions, level-faults, count-level}

@@ -16,7 +16,7 @@ use Rattle.ivfc.specs.Verified.{countOf}
 use Rattle.views.specs.Places.{partitions, committedView}
 use Rattle.faults.specs.declared.Fault.{Fault}
 use Rattle.faults.specs.Faults.{blocksFrom, levelsFrom, partitionsFrom, allBlocks, isFault, kept, faultsOf}
-use Rattle.faults.specs.Searching.{blocksIn}
+use Rattle.faults.specs.Marking.{blocksIn}
 use Rattle.faults.specs.Laws.{All, ofLevel}
 use Rattle.faults.proofs.ListLaws.{at, kept-append, kept-yes, kept-no, kept-none}
 
@@ -58,7 +58,7 @@ module _ (c : Container) (R : Fault → Type 0) where
 
 -- ---- two images whose blocks are verified alike have one list
 
-kept-cong : (P Q : Fault → Bool) (l : List Fault) → All (λ (f : Fault). P f ≡ Q f) l → kept P l ≡ kept Q l
+pub kept-cong : (P Q : Fault → Bool) (l : List Fault) → All (λ (f : Fault). P f ≡ Q f) l → kept P l ≡ kept Q l
 unfolding All kept
 kept-cong P Q [] x = refl
 kept-cong P Q (f ∷ l) x =

@@ -1,6 +1,12 @@
 pub mod ListLaws
 pub mod SearchLaws
 pub mod LevelLaws
+mod SetLaws
+mod UnderLaws
+mod NumberLaws
+mod RoomLaws
+pub mod MarkedLaws
 mod LawsHold
 mod TurnLaws
 mod RowLaws
+mod Lent

@@ -1,3 +1,4 @@
 pub mod Faults
+pub mod Marking
 pub mod Searching
 pub mod Laws

@@ -1,8 +1,12 @@
 // The fault list: every block of levels 1 to 4 that is not verified in the committed view.
-use ivfc::Memory;
 ghost use Rattle.faults.specs.Laws.{FaultLaws};
 
+// The last of the levels.
+pub const LAST: u64 = 4;
+
+pub mod judging;
 pub mod listing;
+pub mod marking;
 pub mod searching;
 
 // A block that is not verified: its partition (0 is A and 1 is B), its level and its number.
@@ -13,12 +17,12 @@ pub struct Fault {
     pub block: u64,
 }
 
-// Where a search goes on: at this block, with what judging has learnt of the levels above.
+// Where a search goes on: at this block, which has this number among all.
 pub struct Place {
     pub partition: u64,
     pub level: u64,
     pub block: u64,
-    pub memory: Memory,
+    pub number: u64,
 }
 
 // The next fault, if there is any, and where the search goes on after it.

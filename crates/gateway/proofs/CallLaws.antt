@@ -8,14 +8,16 @@ use Rattle.steps.specs.declared.Ending.{Ending}
 use Rattle.steps.specs.declared.Step.{Step}
 use Rattle.steps.specs.Calls.{After, Stepped}
 use Rattle.signing.specs.declared.Signer.{Signer}
-use Rattle.boundary.specs.Boundary.{outcomeAnswer, endingAnswer, sessionOf, Called}
+use Rattle.layout.specs.Refusals.{outcomeSays}
+use Rattle.steps.specs.Answers.{endingSays}
+use Rattle.boundary.specs.Boundary.{packed, sessionOf, Called}
 
 -- the answer of an outcome, and of an ending, that is known
-pub answered : {answer : ℕ} {o o' : Outcome} → answer ≡ outcomeAnswer o → o ≡ o' → answer ≡ outcomeAnswer o'
-answered p q = p ∙ λ i. outcomeAnswer (q i)
+pub answered : {answer : ℕ} {o o' : Outcome} → answer ≡ packed (outcomeSays o) → o ≡ o' → answer ≡ packed (outcomeSays o')
+answered p q = p ∙ λ i. packed (outcomeSays (q i))
 
-pub ended : {answer : ℕ} {o o' : Ending} → answer ≡ endingAnswer o → o ≡ o' → answer ≡ endingAnswer o'
-ended p q = p ∙ λ i. endingAnswer (q i)
+pub ended : {answer : ℕ} {o o' : Ending} → answer ≡ packed (endingSays o) → o ≡ o' → answer ≡ packed (endingSays o')
+ended p q = p ∙ λ i. packed (endingSays (q i))
 
 -- the session's bytes after an outcome and a session that are known
 pub left :
@@ -32,12 +34,12 @@ pub called :
     s ≡ sessionOf before →
     Stepped step image (call s) →
     bytes ≡ rule (step .outcome) before (step .session) →
-    answer ≡ endingAnswer (step .outcome) →
+    answer ≡ packed (endingSays (step .outcome)) →
     Called rule answer image before bytes (call (sessionOf before))
 called {rule = rule} call {before = before} of step bytes answer = record {
-  outcome = ended answer (step .outcome ∙ λ i. call (of i) .outcome);
+  outcome = ended answer (step .outcome .case ∙ λ i. call (of i) .outcome);
   stored = step .stored ∙ λ i. call (of i) .image;
-  session = left rule before bytes (step .outcome ∙ λ i. call (of i) .outcome) (step .session ∙ λ i. call (of i) .session);
+  session = left rule before bytes (step .outcome .case ∙ λ i. call (of i) .outcome) (step .session ∙ λ i. call (of i) .session);
 }
 
 -- the same of a call that a signer signs
@@ -47,7 +49,7 @@ pub called-by :
     signer ≡ signer' →
     Stepped step image (call s signer) →
     bytes ≡ rule (step .outcome) before (step .session) →
-    answer ≡ endingAnswer (step .outcome) →
+    answer ≡ packed (endingSays (step .outcome)) →
     Called rule answer image before bytes (call (sessionOf before) signer')
 called-by call {image = image} {s = s} {signer' = signer'} {step = step} of own stepped bytes answer =
     called (λ x. call x signer') of (subst (λ x. Stepped step image (call s x)) own stepped) bytes answer

@@ -29,22 +29,25 @@ use signing::digests::advance;
 use signing::digests::finish;
 use signing::digests::start;
 ghost use mathlib.Core.Path.{_≡_};
+ghost use Rattle.layout.specs.Refusals.{openedSays, outcomeSays};
+ghost use Rattle.steps.specs.Answers.{verdictSays, countSays, endingSays};
+ghost use Rattle.save.specs.Answers.{listedSays, soughtSays};
 ghost use Rattle.faults.specs.Faults.{countFaults, faults, rowAfter};
 ghost use Rattle.layout.specs.Opening.{opened};
 ghost use Rattle.sha256.specs.Running.{stateOf, fresh};
-ghost use Rattle.signing.specs.Calls.{signed, outcomeOf, builtAs, blockLeft, digestLeft};
+ghost use Rattle.signing.specs.Calls.{builtSays, signed, outcomeOf, builtAs, blockLeft, digestLeft};
 ghost use Rattle.signatures.specs.Signatures.{openedSigned};
 ghost use Rattle.steps.specs.Calls as calls;
-ghost use Rattle.boundary.specs.Boundary.{outcomeAnswer, endingAnswer, verdictAnswer, countAnswer, openedAnswer, descriptionLeft, sessionOf, sessionLeft, writeLeft, Called, listedAnswer, soughtAnswer, kindOf};
+ghost use Rattle.boundary.specs.Boundary.{packed, descriptionLeft, sessionOf, sessionLeft, writeLeft, Called, kindOf};
 ghost use Rattle.save.specs.Calls.{listNames, findFile};
 ghost use Rattle.blank.specs.Making.{blankLength, made};
 ghost use Rattle.boundary.specs.Digests.{runningOf, FedBytes, FinishedBytes};
-ghost use Rattle.boundary.specs.Signers.{signerOf, builtAnswer};
+ghost use Rattle.boundary.specs.Signers.{signerOf};
 
 // Opens an image and describes it.
 #[no_mangle]
 pub extern "C" fn teplovist_open(image: &[u8], numbers: &mut [u64; 80]) -> u64
-    ensures { λ r. ⌜ (r ≡ openedAnswer (opened (now (image .entry)))) × (now (numbers .exit) ≡ descriptionLeft (opened (now (image .entry))) (now (numbers .entry))) ⌝ }
+    ensures { λ r. ⌜ (r ≡ packed (openedSays (opened (now (image .entry))))) × (now (numbers .exit) ≡ descriptionLeft (opened (now (image .entry))) (now (numbers .entry))) ⌝ }
 {
     let answer = reading::open(image);
     let before = *numbers;
@@ -60,7 +63,7 @@ pub extern "C" fn teplovist_open_signed(
     signer: &[u64; 4],
     numbers: &mut [u64; 80],
 ) -> u64
-    ensures { λ r. ⌜ (r ≡ openedAnswer (openedSigned (now (image .entry)) (now (key .entry)) (signerOf (now (signer .entry))))) × (now (numbers .exit) ≡ descriptionLeft (openedSigned (now (image .entry)) (now (key .entry)) (signerOf (now (signer .entry)))) (now (numbers .entry))) ⌝ }
+    ensures { λ r. ⌜ (r ≡ packed (openedSays (openedSigned (now (image .entry)) (now (key .entry)) (signerOf (now (signer .entry)))))) × (now (numbers .exit) ≡ descriptionLeft (openedSigned (now (image .entry)) (now (key .entry)) (signerOf (now (signer .entry)))) (now (numbers .entry))) ⌝ }
 {
     let secret = *key;
     let signed_as = *signer;
@@ -78,7 +81,7 @@ pub extern "C" fn teplovist_read_committed(
     place: u64,
     buffer: &mut [u8],
 ) -> u64
-    ensures { λ r. ⌜ (r ≡ outcomeAnswer (calls.readCommitted (now (image .entry)) partition place (now (buffer .entry)) .outcome)) × (now (buffer .exit) ≡ calls.readCommitted (now (image .entry)) partition place (now (buffer .entry)) .buffer) ⌝ }
+    ensures { λ r. ⌜ (r ≡ packed (outcomeSays (calls.readCommitted (now (image .entry)) partition place (now (buffer .entry)) .outcome))) × (now (buffer .exit) ≡ calls.readCommitted (now (image .entry)) partition place (now (buffer .entry)) .buffer) ⌝ }
 {
     outcome_answer(reading::read_committed(image, partition, place, buffer))
 }
@@ -92,7 +95,7 @@ pub extern "C" fn teplovist_read_staged(
     place: u64,
     buffer: &mut [u8],
 ) -> u64
-    ensures { λ r. ⌜ (r ≡ outcomeAnswer (calls.readStaged (now (image .entry)) (sessionOf (now (session .entry))) partition place (now (buffer .entry)) .outcome)) × (now (buffer .exit) ≡ calls.readStaged (now (image .entry)) (sessionOf (now (session .entry))) partition place (now (buffer .entry)) .buffer) ⌝ }
+    ensures { λ r. ⌜ (r ≡ packed (outcomeSays (calls.readStaged (now (image .entry)) (sessionOf (now (session .entry))) partition place (now (buffer .entry)) .outcome))) × (now (buffer .exit) ≡ calls.readStaged (now (image .entry)) (sessionOf (now (session .entry))) partition place (now (buffer .entry)) .buffer) ⌝ }
 {
     let bytes = *session;
     outcome_answer(reading::read_staged(image, session_of(bytes), partition, place, buffer))
@@ -101,7 +104,7 @@ pub extern "C" fn teplovist_read_staged(
 // Whether a block of a partition's level 4 is verified, as the active table has it.
 #[no_mangle]
 pub extern "C" fn teplovist_verified(image: &[u8], partition: u64, block: u64) -> u64
-    ensures { λ r. ⌜ r ≡ verdictAnswer (calls.isVerified (now (image .entry)) partition block) ⌝ }
+    ensures { λ r. ⌜ r ≡ packed (verdictSays (calls.isVerified (now (image .entry)) partition block)) ⌝ }
 {
     verdict_answer(reading::verified(image, partition, block))
 }
@@ -109,7 +112,7 @@ pub extern "C" fn teplovist_verified(image: &[u8], partition: u64, block: u64) -
 // How many blocks of a partition's level 4 are verified.
 #[no_mangle]
 pub extern "C" fn teplovist_count_verified(image: &[u8], partition: u64) -> u64
-    ensures { λ r. ⌜ r ≡ countAnswer (calls.countVerified (now (image .entry)) partition) ⌝ }
+    ensures { λ r. ⌜ r ≡ packed (countSays (calls.countVerified (now (image .entry)) partition)) ⌝ }
 {
     count_answer(reading::count_verified(image, partition))
 }
@@ -117,7 +120,7 @@ pub extern "C" fn teplovist_count_verified(image: &[u8], partition: u64) -> u64
 // The fault list: the row gets the first faults, the answer is the number of all.
 #[no_mangle]
 pub extern "C" fn teplovist_faults(image: &[u8], row: &mut [Fault]) -> u64
-    ensures { λ r. ⌜ (r ≡ countAnswer (countFaults (now (image .entry)))) × (now (row .exit) ≡ rowAfter (faults (now (image .entry))) (now (row .entry))) ⌝ }
+    ensures { λ r. ⌜ (r ≡ packed (countSays (countFaults (now (image .entry))))) × (now (row .exit) ≡ rowAfter (faults (now (image .entry))) (now (row .entry))) ⌝ }
 {
     let count = reading::faults(image, row);
     count_answer(count)
@@ -223,7 +226,7 @@ pub extern "C" fn teplovist_revert_signed(
 // Ends a session without a look at the image.
 #[no_mangle]
 pub extern "C" fn teplovist_abandon(session: &mut [u8; 513]) -> u64
-    ensures { λ r. ⌜ (r ≡ endingAnswer (calls.abandon (sessionOf (now (session .entry))) .outcome)) × (now (session .exit) ≡ sessionLeft (calls.abandon (sessionOf (now (session .entry))) .outcome) (now (session .entry)) (calls.abandon (sessionOf (now (session .entry))) .session)) ⌝ }
+    ensures { λ r. ⌜ (r ≡ packed (endingSays (calls.abandon (sessionOf (now (session .entry))) .outcome))) × (now (session .exit) ≡ sessionLeft (calls.abandon (sessionOf (now (session .entry))) .outcome) (now (session .entry)) (calls.abandon (sessionOf (now (session .entry))) .session)) ⌝ }
 {
     let before = *session;
     let abandoned = sessions::abandon(session_of(before));
@@ -235,7 +238,7 @@ pub extern "C" fn teplovist_abandon(session: &mut [u8; 513]) -> u64
 // Lists the folders and files of a save into the row.
 #[no_mangle]
 pub extern "C" fn teplovist_list_names(image: &[u8], row: &mut [u8]) -> u64
-    ensures { λ r. ⌜ (r ≡ listedAnswer (listNames (now (image .entry)) (now (row .entry)) .answer)) × (now (row .exit) ≡ listNames (now (image .entry)) (now (row .entry)) .row) ⌝ }
+    ensures { λ r. ⌜ (r ≡ packed (listedSays (listNames (now (image .entry)) (now (row .entry)) .answer))) × (now (row .exit) ≡ listNames (now (image .entry)) (now (row .entry)) .row) ⌝ }
 {
     listed_answer(list_names(image, row))
 }
@@ -243,7 +246,7 @@ pub extern "C" fn teplovist_list_names(image: &[u8], row: &mut [u8]) -> u64
 // Finds a file of a save by its folder's number and its name.
 #[no_mangle]
 pub extern "C" fn teplovist_find_file(image: &[u8], folder: u64, name: &[u8; 16]) -> u64
-    ensures { λ r. ⌜ r ≡ soughtAnswer (findFile (now (image .entry)) folder (now (name .entry))) ⌝ }
+    ensures { λ r. ⌜ r ≡ packed (soughtSays (findFile (now (image .entry)) folder (now (name .entry)))) ⌝ }
 {
     sought_answer(find_file(image, folder, name))
 }
@@ -255,7 +258,7 @@ pub extern "C" fn teplovist_signing_block(
     signer: &[u64; 4],
     block: &mut [u8; 284],
 ) -> u64
-    ensures { λ r. ⌜ (r ≡ builtAnswer (builtAs (signed (now (image .entry)) (signerOf (now (signer .entry)))))) × (now (block .exit) ≡ blockLeft (signed (now (image .entry)) (signerOf (now (signer .entry)))) (now (block .entry))) ⌝ }
+    ensures { λ r. ⌜ (r ≡ packed (builtSays (builtAs (signed (now (image .entry)) (signerOf (now (signer .entry))))))) × (now (block .exit) ≡ blockLeft (signed (now (image .entry)) (signerOf (now (signer .entry)))) (now (block .entry))) ⌝ }
 {
     let numbers = *signer;
     built_answer(blocks::signing_block(image, signer_of(numbers), block))
@@ -268,7 +271,7 @@ pub extern "C" fn teplovist_signing_digest(
     signer: &[u64; 4],
     digest: &mut [u8; 32],
 ) -> u64
-    ensures { λ r. ⌜ (r ≡ outcomeAnswer (outcomeOf (signed (now (image .entry)) (signerOf (now (signer .entry)))))) × (now (digest .exit) ≡ digestLeft (signed (now (image .entry)) (signerOf (now (signer .entry)))) (now (digest .entry))) ⌝ }
+    ensures { λ r. ⌜ (r ≡ packed (outcomeSays (outcomeOf (signed (now (image .entry)) (signerOf (now (signer .entry))))))) × (now (digest .exit) ≡ digestLeft (signed (now (image .entry)) (signerOf (now (signer .entry)))) (now (digest .entry))) ⌝ }
 {
     let numbers = *signer;
     outcome_answer(blocks::signing_digest(image, signer_of(numbers), digest))
@@ -318,7 +321,7 @@ pub extern "C" fn teplovist_blank_length(blocks: u64) -> u64
 // Makes a lent image a blank one.
 #[no_mangle]
 pub extern "C" fn teplovist_make_blank(image: &mut [u8], kind: u64, blocks: u64) -> u64
-    ensures { λ r. ⌜ (r ≡ endingAnswer (made (now (image .entry)) (kindOf kind) blocks .outcome)) × (now (image .exit) ≡ made (now (image .entry)) (kindOf kind) blocks .image) ⌝ }
+    ensures { λ r. ⌜ (r ≡ packed (endingSays (made (now (image .entry)) (kindOf kind) blocks .outcome))) × (now (image .exit) ≡ made (now (image .entry)) (kindOf kind) blocks .image) ⌝ }
 {
     ending_answer(making::make_blank(image, kind_of(kind), blocks))
 }

@@ -1,157 +1,260 @@
--- An image that differs from another in the 16 bytes at the front alone, where a signature stands: it answers alike. Assumes nothing.
-use mathlib.Core.Path.{_≡_, refl, sym, ap, _∙_}
-use mathlib.Core.Bool.{Bool, true, false, cond}
+-- An image that differs from another in the 0x100 bytes at the front alone: it opens alike, every view of it shows the same, and whatever only reads
+-- answers alike. Assumes nothing.
+use mathlib.Core.Path.{_≡_, refl, ap, _∙_, fun-ext}
+use mathlib.Core.Bool.{Bool, true, false, _&&_, _||_, cond}
 use mathlib.Core.List.{List}
-use Prim.Native.Nat.{ℕ, _≤_, _<_}
+use Prim.Native.Nat.{ℕ, zero, suc, _+_, _≤_, _<_}
 use native.Mathlib.Omega.{arith}
 use lib.ListN.{length, getD}
-use lib.Dec.{ltb}
+use lib.Dec.{ltb, eqb}
 use borrow.Author.Tests.{ltb-true}
+use Rattle.number.specs.declared.Range.{Range}
 use Rattle.number.specs.declared.Level.{Level}
+use Rattle.number.specs.Ranges.{part}
+use Rattle.number.specs.Bytes.{sameBytes}
 use Rattle.number.specs.Frame.{Keeps}
 use Rattle.number.proofs.FrameLaws.{keeps-refl, keeps-sets}
 use Rattle.layout.specs.declared.Container.{Container}
+use Rattle.layout.specs.declared.Opened.{Opened}
 use Rattle.layout.specs.declared.Opened.the-variants as opening
-use Rattle.layout.specs.declared.Refusal.the-variants.{NoPartition}
+use Rattle.layout.specs.declared.Refusal.the-variants.{NoPartition, SessionState, Stale, NoSave}
 use Rattle.layout.specs.Headers.{headerRange, headerBytes}
-use Rattle.layout.specs.Tables.{active}
+use Rattle.layout.specs.Tables.{active, inactive}
 use Rattle.layout.specs.Opening.{opened}
 use Rattle.layout.specs.Guarantees.{Guarantees}
 use Rattle.layout.proofs.FrameLaws.{agree-part, frame-parts}
-use Rattle.layout.proofs.GuaranteeLaws.{checked, guarantees}
+use Rattle.layout.proofs.GuaranteeLaws.{guarantees}
 use Rattle.layout.proofs.UnderLaws.{past-front}
-use Rattle.signatures.specs.Signatures.{signatureRange, signature}
+use Rattle.signatures.specs.Signatures.{signature}
 use Rattle.signatures.proofs.Laws.{length-signature}
-use Rattle.dpfs.specs.Tree.{place}
+use Rattle.dpfs.specs.declared.Tree.{Tree}
+use Rattle.dpfs.specs.Bits.{bitOf}
+use Rattle.dpfs.specs.Tree.{place, levelByte, select1, select2, select3, content}
 use Rattle.dpfs.specs.Free.{InRange}
-use Rattle.dpfs.proofs.SpareLaws.{Avoids, avoided-content}
-use Rattle.views.specs.Places.{partitions, treeOf, viewIn, committedView}
-use Rattle.views.proofs.PlaceLaws.{tree-inside, tree-rules, committed-rules, committed-master}
+use Rattle.ivfc.specs.declared.View.{View}
+use Rattle.ivfc.specs.Views.{levelOf, innerByte, contentOf, verified}
+use Rattle.ivfc.specs.Verified as tree
+use Rattle.views.specs.Places.{partitions, slotOf, partitionOf, treeIn, masterIn, treeOf, viewIn, committedView, stagedView}
+use Rattle.views.specs.Versions.{Version, versionOf}
+use Rattle.views.proofs.PlaceLaws.{first-there, active-table, inactive-table}
+use Rattle.steps.specs.declared.Session.{Session}
 use Rattle.steps.specs.declared.Verdict.the-variants as verdict
 use Rattle.steps.specs.declared.Count.the-variants as count
-use Rattle.steps.specs.Reading.{readFrom, verdictOn, countIn}
-use Rattle.steps.specs.Calls.{unread, readIn, readCommitted, verifiedIn, isVerified, countVerifiedIn, countVerified}
+use Rattle.steps.specs.Reading.{readFrom, readOutcome, verdictOn, countIn}
+use Rattle.steps.specs.Sessions.{selectorFlipped, forEach, stagedTable, inSomeMaster, allBelow, tableStaged, current}
+use Rattle.steps.specs.Calls.{unread, readIn, readCommitted, readStagedIn, readStaged, verifiedIn, isVerified, countVerifiedIn, countVerified}
 use Rattle.faults.specs.declared.Fault.{Fault}
 use Rattle.faults.specs.Faults.{faultsOf, faultsIn, faults, countFaultsIn, countFaults}
 use Rattle.faults.proofs.LevelLaws.{faults-cong}
-use Rattle.save.proofs.CallLaws.{holds-there}
-use Rattle.history.proofs.NameLaws.{names-same, file-same}
-use Rattle.history.specs.Model.{readOf, judgedOf, countTrue, Form, Plain, Signed}
-use Rattle.views.specs.Versions.{Version, versionOf}
+use Rattle.save.specs.declared.Sought.the-variants as sought
+use Rattle.save.specs.Calls.{holdsSave, unlisted, namesOf, listedIn, listNames, fileOf, soughtIn, findFile}
+use Rattle.history.specs.Model.{Form, Plain, Signed}
 use Rattle.history.specs.Term.{stamped, SameAnswers}
-use Rattle.history.proofs.VersionLaws.{read-version, judged-version, count-version}
-use Rattle.history.proofs.Seen.{SameSeen, same-verified, same-version}
+use Rattle.history.specs.Fronts.{ignored}
 use Rattle.history.proofs.Signing.{same-signed}
 use Rattle.history.proofs.Tables.{place-of}
 
 -- such an image
 abbrev pub Fronted : (image left : List ℕ) → Type 0
-Fronted image left = Keeps (InRange signatureRange) image left
+Fronted image left = Keeps (InRange (ignored Plain)) image left
 
 pub stamped-front : (form : Form) (header image : List ℕ) → Fronted image (stamped form header image)
 stamped-front Plain header image = keeps-refl _ _
 stamped-front (Signed key signer) header image =
     let n = length-signature key signer header in
-    keeps-sets (InRange signatureRange) image 0 (signature key signer header) (λ i h. (omega arith, omega arith))
+    keeps-sets (InRange (ignored Plain)) image 0 (signature key signer header) (λ i h. (omega arith, omega arith))
+
+-- ---- places past the front
+
+pub record TreePast (tree : Tree) : Type 0 where
+  pub level1 : 0x100 ≤ tree .level1 .offset
+  pub level2 : 0x100 ≤ tree .level2 .offset
+  pub level3 : 0x100 ≤ tree .level3 .offset
+
+pub record Past (view : View) : Type 0 where
+  pub tree : TreePast (view .tree)
+  pub master : 0x100 ≤ view .master .offset
+  pub outside : 0x100 ≤ view .outside
+
+-- those of an image that opens
+module _ (image : List ℕ) (c : Container) (g : Guarantees image c) (q : ℕ) (h : q < partitions c) where
+  pub tree-past : TreePast (treeOf c q)
+  unfolding treeIn
+  tree-past = let p = place-of image c g q h .slot .partitionFront in record { level1 = omega arith; level2 = omega arith; level3 = omega arith }
+
+  view-past : (table : Range) (half : Bool) → 0x200 ≤ table .offset → Past (viewIn table (slotOf c q) (partitionOf c q) half)
+  unfolding viewIn masterIn
+  view-past table half t =
+      let p = place-of image c g q h .slot .partitionFront in
+      record { tree = tree-past; master = omega arith; outside = omega arith }
+
+  pub committed-past : Past (committedView c q)
+  unfolding committedView
+  committed-past = view-past (active (c .header)) (treeOf c q .live) (active-table image c g .past)
+
+  pub staged-past : Past (stagedView c q)
+  unfolding stagedView
+  staged-past = view-past (inactive (c .header)) _ (inactive-table image c g .past)
 
 module _ (image left : List ℕ) (k : Fronted image left) where
-  past : (i : ℕ) → 0x10 ≤ i → getD left i 0 ≡ getD image i 0
+  pub past : (i : ℕ) → 0x100 ≤ i → getD left i 0 ≡ getD image i 0
   past i h = k .bytes i (λ f. let (a, b) = f in omega arith)
 
+  pub front-part : (r : Range) → 0x100 ≤ r .offset → part left r ≡ part image r
+  front-part r h = agree-part left image r (k .size) (λ i a b. past i (omega arith))
+
   pub front-header : headerBytes left ≡ headerBytes image
-  front-header = agree-part left image headerRange (k .size) (λ i a b. past i (omega arith))
+  front-header = front-part headerRange (omega arith)
 
   -- opening does not look there
   pub front-opened : opened left ≡ opened image
   front-opened =
       frame-parts left image (k .size) front-header
-      (λ h e. let p = past-front (length left) (headerBytes left) h e in agree-part left image (active h) (k .size) (λ i a b. past i (omega arith)))
+      (λ h e. let p = past-front (length left) (headerBytes left) h e in front-part (active h) (omega arith))
 
-  -- nor does a view
-  module _ (c : Container) (o : opened image ≡ opening.Valid c) where
-    g : Guarantees image c
-    g = guarantees image c o
+  -- nor does a level, a tree or a view
+  pub front-level : (l : Level) (selection : ℕ → Bool) → 0x100 ≤ l .offset → levelByte l selection left ≡ levelByte l selection image
+  unfolding levelByte place
+  front-level l selection h = fun-ext (λ y. past _ (omega arith))
 
-    avoids : (q : ℕ) → q < partitions c → Avoids (InRange signatureRange) (treeOf c q)
-    unfolding place
-    avoids q h =
-        let t = tree-inside image c g q h in
-        let one = t .level1 .0 in
-        let two = t .level2 .0 in
-        let three = t .level3 .0 in
-        let p = place-of image c g q h .slot .partitionFront in
-        record {
-          level1 = λ second y l f. over (treeOf c q .level1) second y f (omega arith);
-          level2 = λ second y l f. over (treeOf c q .level2) second y f (omega arith);
-          level3 = λ second y l f. over (treeOf c q .level3) second y f (omega arith);
-        }
+  module _ (tree : Tree) (p : TreePast tree) (half : Bool) where
+    pub front-select2 : select2 tree left half ≡ select2 tree image half
+    unfolding select2
+    front-select2 = ap bitOf (front-level (tree .level1) (select1 half) (p .level1))
+
+    pub front-select3 : select3 tree left half ≡ select3 tree image half
+    unfolding select3
+    front-select3 =
+        ap (λ (s : ℕ → Bool). bitOf (levelByte (tree .level2) s left)) front-select2
+        ∙ ap bitOf (front-level (tree .level2) (select2 tree image half) (p .level2))
+
+    front-content : content tree left half ≡ content tree image half
+    unfolding content
+    front-content =
+        ap (λ (s : ℕ → Bool). levelByte (tree .level3) s left) front-select3
+        ∙ front-level (tree .level3) (select3 tree image half) (p .level3)
+
+  module _ (view : View) (p : Past view) where
+    inner : (l : Level) (y : ℕ) → innerByte view left l y ≡ innerByte view image l y
+    unfolding innerByte
+    inner l y = ap (λ (f : ℕ → ℕ). f (l .offset + y)) (front-content (view .tree) (p .tree) (view .half))
+
+    pub front-seen : contentOf view left ≡ contentOf view image
+    unfolding contentOf
+    front-seen = fun-ext (λ i. fun-ext (λ y. by i y))
       where
-        over : (l : Level) (second : Bool) (y : ℕ) → InRange signatureRange (place l second y) → 0x200 ≤ l .offset → ⊥
-        over l second y (a, b) k = omega arith
+        by : (i y : ℕ) → contentOf view left i y ≡ contentOf view image i y
+        by zero y = past _ (omega arith)
+        by (suc zero) y = inner (view .level1) y
+        by (suc (suc zero)) y = inner (view .level2) y
+        by (suc (suc (suc zero))) y = inner (view .level3) y
+        by (suc (suc (suc (suc i)))) y = λ j. cond (view .external) (past (view .outside + y) (omega arith) j) (inner (view .level4) y j)
 
-    seen : (q : ℕ) → q < partitions c → SameSeen (committedView c q) (committedView c q) left image
-    unfolding committedView viewIn
-    seen q h = record {
-      masters = refl;
-      level1 = refl;
-      level2 = refl;
-      level3 = refl;
-      level4 = refl;
-      external = refl;
-      master = λ y l. let m = committed-master image c g q h .0 in let p = table-past in past _ (omega arith);
-      inner = avoided-content (treeOf c q) (length image) (tree-rules image c g q h) (InRange signatureRange) image left (avoids q h) k (treeOf c q .live);
-      outer = λ e y l. let p = place-of image c g q h .slot .partitionFront in past _ (omega arith);
-    }
-      where
-        table-past : 0x200 ≤ active (c .header) .offset
-        table-past = past-front (length image) (headerBytes image) (c .header) (checked image c o .header)
+    pub front-read : (x : ℕ) (buffer : List ℕ) → readFrom view left x buffer ≡ readFrom view image x buffer
+    unfolding readFrom readOutcome
+    front-read x buffer = rw front-seen
 
-    pub front-version : (q : ℕ) → q < partitions c → versionOf (committedView c q) left ≡ versionOf (committedView c q) image
-    front-version q h = same-version (committedView c q) (committedView c q) left image (length image) (committed-rules image c g q h) (seen q h)
+    pub front-version : versionOf view left ≡ versionOf view image
+    unfolding versionOf
+    front-version = rw front-seen
 
-    abbrev o' : opened left ≡ opening.Valid c
-    o' = front-opened ∙ o
+  -- ---- nor does what a session is judged by
 
-    same : (q : ℕ) → ltb q (partitions c) ≡ true → versionOf (committedView c q) left ≡ versionOf (committedView c q) image
-    same q e = front-version q (ltb-true q (partitions c) e)
+  module _ (c : Container) (g : Guarantees image c) where
+    pub front-table : stagedTable c left ≡ stagedTable c image
+    unfolding stagedTable
+    front-table = let t = active-table image c g .past in ap (forEach c (selectorFlipped c)) (front-part (active (c .header)) (omega arith))
 
-    reads : (q place : ℕ) (buffer : List ℕ) (t : Bool) → ltb q (partitions c) ≡ t
-        → cond t (readFrom (committedView c q) left place buffer) (unread buffer NoPartition)
-        ≡ cond t (readFrom (committedView c q) image place buffer) (unread buffer NoPartition)
-    reads q place buffer true e =
-        read-version (committedView c q) left place buffer ∙ ap (λ (v : Version). readOf v place buffer) (same q e)
-        ∙ sym (read-version (committedView c q) image place buffer)
-    reads q place buffer false e = refl
+    pub front-current : (session : Session) → current c left session ≡ current c image session
+    unfolding current tableStaged
+    front-current session =
+        let t = inactive-table image c g .past in
+        λ j. sameBytes (front-header j) (session .header)
+        && allBelow (inactive (c .header) .size) (λ (i : ℕ). inSomeMaster c i || eqb (past (inactive (c .header) .offset + i) (omega arith) j) (getD (front-table j) i 0))
 
-    questions : (q b : ℕ) (t : Bool) → ltb q (partitions c) ≡ t
-        → cond t (verdictOn (committedView c q) left b) (verdict.Refused NoPartition)
-        ≡ cond t (verdictOn (committedView c q) image b) (verdict.Refused NoPartition)
-    questions q b true e =
-        judged-version (committedView c q) left b ∙ ap (λ (v : Version). judgedOf v b) (same q e) ∙ sym (judged-version (committedView c q) image b)
-    questions q b false e = refl
+  -- ---- so whatever only reads answers alike
 
-    counts : (q : ℕ) (t : Bool) → ltb q (partitions c) ≡ t
-        → cond t (countIn (committedView c q) left) (count.Refused NoPartition) ≡ cond t (countIn (committedView c q) image) (count.Refused NoPartition)
-    counts q true e =
-        count-version (committedView c q) left ∙ ap (λ (v : Version). count.Blocks (countTrue (v .verified))) (same q e)
-        ∙ sym (count-version (committedView c q) image)
-    counts q false e = refl
+  -- what asks for a partition that is there
+  if-there : {A : Type 0} (n q : ℕ) (a b other : A) → (q < n → a ≡ b) → cond (ltb q n) a other ≡ cond (ltb q n) b other
+  if-there n q a b other e = by (ltb q n) refl
+    where
+      by : (t : Bool) → ltb q n ≡ t → cond t a other ≡ cond t b other
+      by true h = e (ltb-true q n h)
+      by false h = refl
 
-    same-faults : faultsOf c left ≡ faultsOf c image
-    same-faults =
-        faults-cong c left image
-        (λ q i b h m l. same-verified (committedView c q) (committedView c q) left image (length image) (committed-rules image c g q h) (seen q h) i b m l)
+  module _ (q : ℕ) where
+    reads : (x : ℕ) (buffer : List ℕ) (o : Opened) → opened image ≡ o → readIn left q x buffer o ≡ readIn image q x buffer o
+    reads x buffer (opening.Refused r) e = refl
+    reads x buffer (opening.Valid c) e =
+        if-there (partitions c) q _ _ (unread buffer NoPartition)
+        (λ h. front-read (committedView c q) (committed-past image c (guarantees image c e) q h) x buffer)
 
-    pub front-answers : SameAnswers image left
-    unfolding readCommitted isVerified countVerified countFaults faults
-    front-answers = record {
-      opening = front-opened;
-      reads = λ q place buffer. ap (readIn left q place buffer) o' ∙ reads q place buffer (ltb q (partitions c)) refl ∙ sym (ap (readIn image q place buffer) o);
-      questions = λ q b. ap (verifiedIn left q b) o' ∙ questions q b (ltb q (partitions c)) refl ∙ sym (ap (verifiedIn image q b) o);
-      counts = λ q. ap (countVerifiedIn left q) o' ∙ counts q (ltb q (partitions c)) refl ∙ sym (ap (countVerifiedIn image q) o);
-      faultCount = ap (countFaultsIn left) o' ∙ ap (λ (l : List Fault). count.Blocks (length l)) same-faults ∙ sym (ap (countFaultsIn image) o);
-      faultList = ap (faultsIn left) o' ∙ same-faults ∙ sym (ap (faultsIn image) o);
-      signing = same-signed image left (k .size) front-header;
-      names = names-same image c o left o' (λ h. same 0 (holds-there c h));
-      finds = file-same image c o left o' (λ h. same 0 (holds-there c h));
-    }
+    questions : (b : ℕ) (o : Opened) → opened image ≡ o → verifiedIn left q b o ≡ verifiedIn image q b o
+    unfolding verdictOn
+    questions b (opening.Refused r) e = refl
+    questions b (opening.Valid c) e =
+        if-there (partitions c) q _ _ (verdict.Refused NoPartition)
+        (λ h. rw (front-seen (committedView c q) (committed-past image c (guarantees image c e) q h)))
+
+    counts : (o : Opened) → opened image ≡ o → countVerifiedIn left q o ≡ countVerifiedIn image q o
+    unfolding countIn
+    counts (opening.Refused r) e = refl
+    counts (opening.Valid c) e =
+        if-there (partitions c) q _ _ (count.Refused NoPartition)
+        (λ h. rw (front-seen (committedView c q) (committed-past image c (guarantees image c e) q h)))
+
+    staged : (session : Session) (x : ℕ) (buffer : List ℕ) (o : Opened) → opened image ≡ o → readStagedIn left session q x buffer o ≡ readStagedIn image session q x buffer o
+    staged session x buffer (opening.Refused r) e = refl
+    staged session x buffer (opening.Valid c) e =
+        let g = guarantees image c e in
+        λ i. cond (session .begun)
+        (cond (front-current c g session i)
+        (if-there (partitions c) q _ _ (unread buffer NoPartition) (λ h. front-read (stagedView c q) (staged-past image c g q h) x buffer) i)
+        (unread buffer Stale))
+        (unread buffer SessionState)
+
+  pub front-staged : (session : Session) (q x : ℕ) (buffer : List ℕ) → readStaged left session q x buffer ≡ readStaged image session q x buffer
+  unfolding readStaged
+  front-staged session q x buffer = ap (readStagedIn left session q x buffer) front-opened ∙ staged q session x buffer (opened image) refl
+
+  same-faults : (c : Container) → opened image ≡ opening.Valid c → faultsOf c left ≡ faultsOf c image
+  same-faults c o =
+      faults-cong c left image
+      (λ q i b h m l. ap (λ (f : ℕ → ℕ → ℕ). tree.verified (levelOf (committedView c q)) f i b)
+      (front-seen (committedView c q) (committed-past image c (guarantees image c o) q h)))
+
+  fault-count : (o : Opened) → opened image ≡ o → countFaultsIn left o ≡ countFaultsIn image o
+  fault-count (opening.Refused r) e = refl
+  fault-count (opening.Valid c) e = ap (λ (l : List Fault). count.Blocks (length l)) (same-faults c e)
+
+  fault-list : (o : Opened) → opened image ≡ o → faultsIn left o ≡ faultsIn image o
+  fault-list (opening.Refused r) e = refl
+  fault-list (opening.Valid c) e = same-faults c e
+
+  -- a save stands in partition A
+  first : (c : Container) → opened image ≡ opening.Valid c → versionOf (committedView c 0) left ≡ versionOf (committedView c 0) image
+  first c o =
+      let g = guarantees image c o in
+      front-version (committedView c 0) (committed-past image c g 0 (first-there (length image) (c .header) (g .header)))
+
+  names : (row : List ℕ) (o : Opened) → opened image ≡ o → listedIn left row o ≡ listedIn image row o
+  names row (opening.Refused r) e = refl
+  names row (opening.Valid c) e = ap (λ (v : Version). cond (holdsSave c) (namesOf v row) (unlisted row NoSave)) (first c e)
+
+  finds : (folder : ℕ) (name : List ℕ) (o : Opened) → opened image ≡ o → soughtIn left folder name o ≡ soughtIn image folder name o
+  finds folder name (opening.Refused r) e = refl
+  finds folder name (opening.Valid c) e = ap (λ (v : Version). cond (holdsSave c) (fileOf v folder name) (sought.Refused NoSave)) (first c e)
+
+  pub front-answers : SameAnswers image left
+  unfolding readCommitted isVerified countVerified countFaults faults listNames findFile
+  front-answers = record {
+    opening = front-opened;
+    reads = λ q x buffer. ap (readIn left q x buffer) front-opened ∙ reads q x buffer (opened image) refl;
+    questions = λ q b. ap (verifiedIn left q b) front-opened ∙ questions q b (opened image) refl;
+    counts = λ q. ap (countVerifiedIn left q) front-opened ∙ counts q (opened image) refl;
+    faultCount = ap (countFaultsIn left) front-opened ∙ fault-count (opened image) refl;
+    faultList = ap (faultsIn left) front-opened ∙ fault-list (opened image) refl;
+    signing = same-signed image left (k .size) front-header;
+    names = λ row. ap (listedIn left row) front-opened ∙ names row (opened image) refl;
+    finds = λ folder name. ap (soughtIn left folder name) front-opened ∙ finds folder name (opened image) refl;
+  }

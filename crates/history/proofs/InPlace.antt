@@ -47,7 +47,8 @@ use Rattle.history.proofs.NameLaws.{names-same, file-same}
 use Rattle.history.specs.External.{storedBy, InPlace, InPlaceBy, InPlaceOf, LeftBut, TouchedBy, TouchedOf, Untouched, SameAnswersBut, InPlaceTheorem, OneShape, AlikeIn}
 use Rattle.history.proofs.VersionLaws.{read-version, judged-version, count-version}
 use Rattle.views.proofs.FlagLaws.{length-flags, getD-flags}
-use Rattle.history.proofs.Outers.{Outer, external-inside, same-or-apart, front-stays, header-stays, still-opens, internal-stays, entries-stay, byte-stays, hash-stays, block-stays}
+use Rattle.views.proofs.ProtectedLaws.{never-both, same-or-apart, external-inside}
+use Rattle.history.proofs.Outers.{Outer, front-stays, header-stays, still-opens, internal-stays, entries-stay, byte-stays, hash-stays, block-stays}
 use Rattle.history.proofs.Signing.{same-signed, same-signature}
 
 -- ---- versions that are alike in the blocks that a read touches
@@ -106,10 +107,6 @@ unfolding InPlaceOf InPlace
 in-place-outer c [] i w = absurd w
 in-place-outer c (e ∷ rest) i (inl (q, put, p, (h, x, r))) = (q, h, x)
 in-place-outer c (e ∷ rest) i (inr w) = in-place-outer c rest i w
-
-never-both : (a b : Range) (i : ℕ) → Apart a b → InRange a i → InRange b i → ⊥
-never-both a b i (inl h) p q = omega arith
-never-both a b i (inr h) p q = omega arith
 
 module _ (image : List ℕ) (c : Container) (g : Guarantees image c) (q : ℕ) (k : q < partitions c) (external : partitionOf c q .difi .external ≡ true)
     (y : ℕ) (l : y < partitionOf c q .ivfc .level4 .size) where

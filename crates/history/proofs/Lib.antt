@@ -24,6 +24,8 @@ pub mod Outers
 pub mod InPlace
 pub mod Eithers
 pub mod Fronts
+pub mod FrontStores
+pub mod FrontCalls
 pub mod Reverts
 pub mod Terms
 pub mod Former

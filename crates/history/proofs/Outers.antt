@@ -15,7 +15,6 @@ use Rattle.number.specs.declared.Level.{Level}
 use Rattle.number.specs.Ranges.{Apart, levelRange, twice}
 use Rattle.number.specs.Blocks.{blocks, blockOf, blockSize, blockLength}
 use Rattle.number.specs.Bytes.{bytes}
-use Rattle.number.proofs.RangeLaws.{apart-swap}
 use Rattle.number.proofs.FrameLaws.{keeps-more}
 use Rattle.number.proofs.BlockLaws.{block-inside, exists-byte, block-byte}
 use Rattle.layout.specs.declared.Container.{Container}
@@ -40,9 +39,9 @@ use Rattle.ivfc.proofs.EntryLaws.{block-cong, entry-cong}
 use Rattle.ivfc.proofs.VerifiedLaws.{entry-inside, parent-inside, verified-cong}
 use Rattle.views.specs.Places.{partitions, slotOf, partitionOf, treeIn, treeOf, viewIn, committedView, spaceOf}
 use Rattle.views.specs.Protected.{ExternalByte, Protected}
-use Rattle.views.proofs.PlaceLaws.{present, first-there, second-there, third-missing, active-partition, tree-inside, tree-rules, committed-rules, committed-master, space-rules, tree-among}
-use Rattle.views.proofs.ProtectedLaws.{protected-not-free, not-free-protected}
-use Rattle.views.proofs.OpenLaws.{loose-opens}
+use Rattle.views.proofs.PlaceLaws.{present, first-there, active-partition, tree-inside, tree-rules, committed-rules, committed-master, space-rules, tree-among}
+use Rattle.views.proofs.ProtectedLaws.{protected-not-free, not-free-protected, never-both, same-or-apart, external-inside}
+use Rattle.views.proofs.OpenLaws.{storable-opens}
 use Rattle.views.specs.Versions.{versionOf}
 use Rattle.history.specs.External.{InPlace, LeftBut, ProtectedBut}
 use Rattle.history.proofs.Seen.{SameSeen, same-version}
@@ -58,10 +57,6 @@ protected-but W image c g i = (
 
 -- ---- ranges (these laws stand in views, private)
 
-never-both : (a b : Range) (i : ℕ) → Apart a b → InRange a i → InRange b i → ⊥
-never-both a b i (inl h) p q = omega arith
-never-both a b i (inr h) p q = omega arith
-
 -- a range beyond a level's pair, both moved
 beyond-pair : (base : ℕ) (l : Level) (r : Range) (second : Bool) (y : ℕ) → Apart (twice (levelRange l)) r → y < l .size
     → InRange (record { offset = base + r .offset; size = r .size }) (place (record { offset = base + l .offset; size = l .size; log = l .log }) second y) → ⊥
@@ -72,25 +67,6 @@ beyond-pair base l r false y (inl h) k f = omega arith
 beyond-pair base l r false y (inr h) k f = omega arith
 
 module _ (image : List ℕ) (c : Container) (g : Guarantees image c) where
-  pub external-inside : (q i : ℕ) → q < partitions c → ExternalByte c q i → InRange (slotOf c q .partition) i
-  unfolding ExternalByte
-  external-inside q i k (e, h) =
-      let inside : partitionOf c q .difi .outside + partitionOf c q .ivfc .level4 .size ≤ slotOf c q .partition .size
-      = present image c g q k .described .guarantees .external e .inside in
-      (omega arith, omega arith)
-
-  pub same-or-apart : (q r : ℕ) → q < partitions c → r < partitions c → (q ≡ r) ⊎ Apart (slotOf c q .partition) (slotOf c r .partition)
-  unfolding slotOf
-  same-or-apart zero zero h k = inl refl
-  same-or-apart zero (suc zero) h k = inr (g .header .partitionsApart (second-there (length image) (c .header) (g .header) k))
-  same-or-apart zero (suc (suc r)) h k = absurd (third-missing (length image) (c .header) (g .header) r k)
-  same-or-apart (suc zero) zero h k =
-      inr (apart-swap (c .header .a .partition) (c .header .b .partition)
-      (g .header .partitionsApart (second-there (length image) (c .header) (g .header) h)))
-  same-or-apart (suc zero) (suc zero) h k = inl refl
-  same-or-apart (suc zero) (suc (suc r)) h k = absurd (third-missing (length image) (c .header) (g .header) r k)
-  same-or-apart (suc (suc q)) r h k = absurd (third-missing (length image) (c .header) (g .header) q h)
-
   -- an external level 4 avoids every tree
   module _ (q r : ℕ) (k : q < partitions c) (l : r < partitions c) where
     in-partition : (m : Level) (second : Bool) (y : ℕ) → (slotOf c r .partition .offset ≤ m .offset) × (m .offset + 2 * m .size ≤ slotOf c r .partition .offset + slotOf c r .partition .size)
@@ -103,9 +79,9 @@ module _ (image : List ℕ) (c : Container) (g : Guarantees image c) where
     elsewhere a =
         let t = tree-inside image c g r l in
         record {
-          level1 = λ second y h x. never-both (slotOf c q .partition) (slotOf c r .partition) _ a (external-inside q _ k x) (in-partition (treeOf c r .level1) second y (t .level1) h);
-          level2 = λ second y h x. never-both (slotOf c q .partition) (slotOf c r .partition) _ a (external-inside q _ k x) (in-partition (treeOf c r .level2) second y (t .level2) h);
-          level3 = λ second y h x. never-both (slotOf c q .partition) (slotOf c r .partition) _ a (external-inside q _ k x) (in-partition (treeOf c r .level3) second y (t .level3) h);
+          level1 = λ second y h x. never-both (slotOf c q .partition) (slotOf c r .partition) _ a (external-inside image c g q _ k x) (in-partition (treeOf c r .level1) second y (t .level1) h);
+          level2 = λ second y h x. never-both (slotOf c q .partition) (slotOf c r .partition) _ a (external-inside image c g q _ k x) (in-partition (treeOf c r .level2) second y (t .level2) h);
+          level3 = λ second y h x. never-both (slotOf c q .partition) (slotOf c r .partition) _ a (external-inside image c g q _ k x) (in-partition (treeOf c r .level3) second y (t .level3) h);
         }
 
   own : (q : ℕ) → q < partitions c → Avoids (ExternalByte c q) (treeOf c q)
@@ -123,7 +99,7 @@ module _ (image : List ℕ) (c : Container) (g : Guarantees image c) where
       guards q k e = present image c g q k .described .guarantees .external e
 
   pub external-avoids : (q r : ℕ) → q < partitions c → r < partitions c → Avoids (ExternalByte c q) (treeOf c r)
-  external-avoids q r k l = by (same-or-apart q r k l)
+  external-avoids q r k l = by (same-or-apart image c g q r k l)
     where
       by : (q ≡ r) ⊎ Apart (slotOf c q .partition) (slotOf c r .partition) → Avoids (ExternalByte c q) (treeOf c r)
       by (inl e) = subst (λ (s : ℕ). Avoids (ExternalByte c q) (treeOf c s)) e (own q k)
@@ -162,7 +138,7 @@ module _ (image left : List ℕ) (c : Container) (g : Guarantees image c) (W : �
   header-stays = agree-part left image headerRange (k .size) (λ i a b. front-stays i (omega arith))
 
   pub still-opens : (o : opened image ≡ opening.Valid c) → opened left ≡ opening.Valid c
-  still-opens o = loose-opens image left c o (keeps-more (λ i. ⊎-elim inl (λ w. inr (outer i w))) k)
+  still-opens o = storable-opens image left c o (keeps-more (λ i. ⊎-elim inl (λ w. inr (outer i w))) k)
 
   w-avoids : (r : ℕ) → r < partitions c → Avoids W (treeOf c r)
   w-avoids r l = record {

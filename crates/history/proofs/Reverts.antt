@@ -3,10 +3,9 @@ use mathlib.Core.Path.{_≡_, refl, sym, ap, _∙_, subst}
 use mathlib.Core.Bool.{Bool, true, false, _&&_, cond}
 use mathlib.Core.List.{List}
 use mathlib.Core.Logic.{inl, inr}
-use Prim.Native.Nat.{ℕ, _+_, _≤_, _<_}
+use Prim.Native.Nat.{ℕ, _≤_}
 use native.Mathlib.Omega.{arith}
-use native.Mathlib.Decide.{decLt}
-use lib.ListN.{length, getD}
+use lib.ListN.{length}
 use lib.Seq.{sets, length-sets, ext-getD}
 use Rattle.number.specs.Ranges.{part}
 use Rattle.number.specs.Bytes.{Outside, sameBytes}
@@ -47,6 +46,7 @@ use Rattle.history.proofs.Tables.{length-of, byte-of}
 use Rattle.history.proofs.Units.{new-size, headed}
 use Rattle.history.proofs.Commits.{commits}
 use Rattle.history.proofs.Signing.{same-signed, signs-too, opens-signed}
+use Rattle.history.proofs.FrontStores.{sets-after}
 use Rattle.history.proofs.Fronts.{Fronted, stamped-front, front-opened, front-header, front-answers}
 
 -- ---- nothing remembered
@@ -83,7 +83,7 @@ revert-is Plain st = refl
 revert-is (Signed key signer) st = refl
 
 -- the image that it leaves then
-abbrev backImage : Form → (image former : List ℕ) → List ℕ
+abbrev pub backImage : Form → (image former : List ℕ) → List ℕ
 backImage Plain image former = revertedImage image former
 backImage (Signed key signer) image former = revertedSigned image former key signer
 
@@ -217,26 +217,6 @@ put-back base header m n =
     (λ j h. sym (byte-of base headerRange j (omega arith)))
     (λ i h. sym (sets-out base 0x100 header i (subst (λ (z : ℕ). Outside 0x100 z i) (k ∙ sym n) h))))
 
--- a signature and a header may be stored in either order
-swapped : (base code header : List ℕ) → 0x200 ≤ length base → length code ≡ 16 → length header ≡ 256
-    → sets (sets base 0 code) 0x100 header ≡ sets (sets base 0x100 header) 0 code
-swapped base code header m n k =
-    let l = length-sets base 0 code in
-    let l' = length-sets base 0x100 header in
-    let l'' = length-sets (sets base 0x100 header) 0 code in
-    sym (sets-is (sets base 0 code) 0x100 header (sets (sets base 0x100 header) 0 code) (omega arith) (omega arith)
-    (λ j h. sets-out (sets base 0x100 header) 0 code (0x100 + j) (inr (omega arith)) ∙ sets-in base 0x100 header j (omega arith) (omega arith))
-    (λ i h. by i h (decLt i 16)))
-  where
-    by : (i : ℕ) → Outside 0x100 (length header) i → Dec (i < 16) → getD (sets (sets base 0x100 header) 0 code) i 0 ≡ getD (sets base 0 code) i 0
-    by i h (yes a) =
-        let z : 0 + i ≡ i = omega arith in
-        let l' = length-sets base 0x100 header in
-        ap (λ (j : ℕ). getD (sets (sets base 0x100 header) 0 code) j 0) (sym z) ∙ sets-in (sets base 0x100 header) 0 code i (omega arith) (omega arith)
-        ∙ sym (sets-in base 0 code i (omega arith) (omega arith)) ∙ ap (λ (j : ℕ). getD (sets base 0 code) j 0) z
-    by i h (no a) =
-        sets-out (sets base 0x100 header) 0 code i (inr (omega arith)) ∙ sets-out base 0x100 header i h ∙ sym (sets-out base 0 code i (inr (omega arith)))
-
 -- ---- after a commit
 
 -- it stores the signature, if it is signed, and the header
@@ -297,9 +277,7 @@ module _ (image : List ℕ) (c : Container) (o : opened image ≡ opening.Valid 
   unfolding revertedSigned storedSigned revertedImage
   given-back Plain = restored
   given-back (Signed key signer) =
-      let m = g .shortest in
-      let l = headed image c g form .size in
-      swapped there (signature key signer (headerBytes image)) (headerBytes image) (omega arith) (length-signature key signer (headerBytes image)) header-long
+      sets-after (headerBytes image) (signature key signer (headerBytes image)) there 0 0x100 (let n = length-signature key signer (headerBytes image) in omega arith)
       ∙ ap (λ (x : List ℕ). sets x 0 (signature key signer (headerBytes image))) restored
 
 -- what an accepted commit leaves
@@ -406,9 +384,8 @@ module _ (form back : Form) (st : State) (between : List Call) (e : ruled (Commi
 
     answers : SameAnswers (st .image) (nextRevert back (afterCommit form st between) .image)
     answers =
-        let l = lands form st e in
         subst (λ (x : State). SameAnswers (st .image) (x .image)) (sym leaves)
-        (front-answers (st .image) (givenBack form back (st .image) (next (Commit form) st .image)) (given-front form back st e) (l .container) (l .opens))
+        (front-answers (st .image) (givenBack form back (st .image) (next (Commit form) st .image)) (given-front form back st e))
 
 opens-back : (form back : Form) (st : State) (e : ruled (Commit form) st ≡ Accepted) → ruledRevert back (next (Commit form) st) ≡ Accepted
     → openedAs back (givenBack form back (st .image) (next (Commit form) st .image)) ≡ opened (st .image)
@@ -435,21 +412,20 @@ opens-former : (image former later : List ℕ) → revertible image former later
 unfolding revertible
 opens-former image former later e = and-right (sameBytes (headerBytes image) later) (isValid (opened (revertedImage image former))) e
 
-same-back : (form : Form) (image former : List ℕ) → 0x200 ≤ length image → length former ≡ 256 → opened (backImage form image former) ≡ opened (revertedImage image former)
+same-back : (form : Form) (image former : List ℕ) → opened (backImage form image former) ≡ opened (revertedImage image former)
 unfolding revertedSigned storedSigned revertedImage
-same-back Plain image former m n = refl
-same-back (Signed key signer) image former m n =
-    ap opened (swapped image (signature key signer former) former m (length-signature key signer former) n)
+same-back Plain image former = refl
+same-back (Signed key signer) image former =
+    ap opened (sets-after former (signature key signer former) image 0 0x100 (let k = length-signature key signer former in omega arith))
     ∙ front-opened (sets image 0x100 former) (sets (sets image 0x100 former) 0 (signature key signer former)) (stamped-front (Signed key signer) former (sets image 0x100 former))
 
-again : (form back : Form) (st : State) → length (st .session .header) ≡ 256 → ruledRevert form st ≡ Accepted → reverted back (nextRevert form st) .answer ≡ refused21
-again form back st n e =
+again : (form back : Form) (st : State) → ruledRevert form st ≡ Accepted → reverted back (nextRevert form st) .answer ≡ refused21
+again form back st e =
     let r = reverted-by form st e in
-    let m = guarantees (st .image) (r .reach .container) (r .reach .opens) .shortest in
     let (c, o) = valid (opened (revertedImage (st .image) (st .session .header))) (opens-former (st .image) (st .session .header) (st .session .later) (r .reach .revertible)) in
     ap (λ (a : After). reverted back (left a) .answer) (r .after)
     ∙ ap (λ (a : After). Stepping (a .outcome))
-    (fresh back (backImage form (st .image) (st .session .header)) c (same-back form (st .image) (st .session .header) (omega arith) n ∙ o))
+    (fresh back (backImage form (st .image) (st .session .header)) c (same-back form (st .image) (st .session .header) ∙ o))
 
 back-unit : (form : Form) (image former : List ℕ) → length former ≡ 256 → Keeps (InUnit form) image (backImage form image former)
 unfolding revertedSigned storedSigned revertedImage

@@ -32,7 +32,7 @@ use Rattle.history.proofs.Outers.{still-opens, internal-stays, free-sta
 use Rattle.history.proofs.Calls.{call-laws}
 use Rattle.history.proofs.Reverts.{reverted-by, busy, forgot, after-commit, given-front}
 use Rattle.history.proofs.Reverts as reverts
-use Rattle.history.proofs.Fronts.{front-opened, front-version}
+use Rattle.history.proofs.Fronts.{committed-past, front-opened, front-version}
 
 -- what an accepted revert would leave is the version before the newest
 pub record Restores (p : ℕ) (image : List ℕ) (older : List Version) : Type 0 where
@@ -173,7 +173,7 @@ module _ (W : CallLaws) where
           rest = past .older;
           list = refl;
           has = record { container = h .container; opens = front-opened (st .image) given k ∙ h .opens; there = h .there; internal = h .internal };
-          committed = front-version (st .image) given k (h .container) (h .opens) p (h .there) ∙ g .agrees .committed;
+          committed = front-version (st .image) given k (committedView (h .container) p) (committed-past (st .image) (h .container) (guarantees (st .image) (h .container) (h .opens)) p (h .there)) ∙ g .agrees .committed;
         })
 
     lands : (form : Form) → ruled (Commit form) st ≡ Accepted

@@ -41,13 +41,13 @@ use Rattle.history.specs.Model.{marked, laidOver}
 use Rattle.views.specs.Versions.{flags, versionOf}
 use Rattle.history.proofs.CallCases.{passed, unrefused, write-fits}
 use Rattle.views.specs.Protected.{ExternalByte, Protected}
-use Rattle.views.proofs.ProtectedLaws.{protected-not-free}
+use Rattle.views.proofs.ProtectedLaws.{protected-not-free, same-or-apart, external-inside}
 use Rattle.history.specs.External.{InPlace, LeftBut}
 use Rattle.views.proofs.FlagLaws.{flags-cong}
 use Rattle.history.proofs.CallLaws.{WriteLaws}
 use Rattle.history.proofs.LaidLaws.{put-bytes}
 use Rattle.history.proofs.Seen.{SameSeen, same-version}
-use Rattle.history.proofs.Outers.{place-outer, active-stays, external-inside, same-or-apart}
+use Rattle.history.proofs.Outers.{place-outer, active-stays}
 use Rattle.history.proofs.Tables.{below-all, place-of, descriptors-apart, trees-apart, staged-byte}
 
 -- ---- the version, byte by byte and block by block

@@ -5,3 +5,4 @@ pub mod Theorem
 pub mod ReadBack
 pub mod Term
 pub mod Former
+pub mod Fronts

@@ -98,12 +98,11 @@ pub record RevertTheorem : Type 0 where
   -- after an accepted commit, as long as no begin is accepted
   pub back : (form back : Form) (st : State) (between : List Call) → ruled (Commit form) st ≡ Accepted → begins (events between (next (Commit form) st)) ≡ 0
       → StepsBack form back st between
-  -- a revert straight after an accepted one is 21 (a session's header has 256 bytes), and so is one with a session that remembers nothing
-  pub again : (form back : Form) (st : State) → length (st .session .header) ≡ 256 → ruledRevert form st ≡ Accepted
-      → reverted back (nextRevert form st) .answer ≡ refused21
+  -- a revert straight after an accepted one is 21, and so is one with a session that remembers nothing
+  pub again : (form back : Form) (st : State) → ruledRevert form st ≡ Accepted → reverted back (nextRevert form st) .answer ≡ refused21
   pub fresh : (form : Form) (image : List ℕ) (c : Container) → opened image ≡ opening.Valid c
       → reverted form (record { image = image; session = idle }) .answer ≡ refused21
-  -- whatever session is handed in, a revert stores to nothing but its unit, and a refused one to nothing
+  -- whatever session is handed in, a revert stores to nothing but its unit (a session's header has 256 bytes), and a refused one to nothing
   pub stores : (form : Form) (st : State) → length (st .session .header) ≡ 256 → Keeps (InUnit form) (st .image) (nextRevert form st .image)
   pub refused : (form : Form) (st : State) → ruledRevert form st ≡ Refused → nextRevert form st ≡ st
 

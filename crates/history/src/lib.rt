@@ -8,10 +8,12 @@
 // - landing: first_value_wins, write_marks_nothing;
 // - a partition of either kind: write_in_place_loosens_nothing, dropped_loosens_nothing;
 // - step back: signature_not_renewed;
+// - the front: header_unread, signature_unread;
 // - term: crash_keeps_session, commit_appends_nothing, revert_removes_nothing, version_forgets_verified.
 ghost use Rattle.history.specs.External.{EitherTheorem};
 ghost use Rattle.history.specs.External.{InPlaceTheorem};
 ghost use Rattle.history.specs.Former.{Former};
+ghost use Rattle.history.specs.Fronts.{FrontTheorem};
 ghost use Rattle.history.specs.ReadBack.{ReadBack};
 ghost use Rattle.history.specs.Term.{RevertTheorem};
 ghost use Rattle.history.specs.Term.{TermTheorem};
@@ -50,4 +52,9 @@ pub fn step_back()
 // A whole term follows its list of versions.
 pub fn term()
     ensures { λ _. ⌜ TermTheorem ⌝ }
+{}
+
+// No call reads or changes the bytes before the header, but for the signature of the signed ones.
+pub fn front_unread()
+    ensures { λ _. ⌜ FrontTheorem ⌝ }
 {}

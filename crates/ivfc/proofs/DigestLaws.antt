@@ -185,7 +185,7 @@ module _ (n : ℕ) (room filled rest : List ℕ) (h : n * 32 ≤ length room) (k
 module _ (levels : ℕ → Level) (content : ℕ → ℕ → ℕ) (i b n : ℕ) (d e : List ℕ) (h : 1 ≤ i) (p : d ≡ digests (levels i) (content i) b n)
     (q : e ≡ bytes (content (i - 1)) (b * 32) (n * 32)) where
   -- one by one
-  agrees : (j : ℕ) → j < n → agree d e j ≡ matches levels content i (b + j)
+  pub agrees : (j : ℕ) → j < n → agree d e j ≡ matches levels content i (b + j)
   agrees j k = rw (p, q) (agree-is levels content i b n j h k)
 
   -- the first that does not agree is the first that does not match, and as many agree as match

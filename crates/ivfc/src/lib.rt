@@ -31,11 +31,13 @@ pub struct Digests {
     pub bytes: [u8; 256],
 }
 
-// How blocks in a row compare with their entries: how many were hashed, how many match before the first that does not, and how many match.
+// How blocks in a row compare with their entries: how many were hashed, how many match before the first that does not, how many match, and
+// which, at the front of `each`.
 pub struct Compared {
     pub hashed: u64,
     pub before: u64,
     pub matching: u64,
+    pub each: [bool; 8],
 }
 
 // What is remembered of a level: its blocks from `first` on are verified up to `end`, which is not, or is past the last that is asked for.

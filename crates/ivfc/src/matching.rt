@@ -5,8 +5,9 @@ use super::gathering::gather;
 use super::hashing::digests_from;
 use number::runs::same_bytes;
 ghost use mathlib.Core.Path.{_≡_};
+ghost use mathlib.Core.Bool.{false};
 ghost use Prim.Native.Nat.{ℕ, _+_, _-_, _*_, _≤_, _<_};
-ghost use lib.ListN.{length};
+ghost use lib.ListN.{length, getD};
 ghost use Rattle.number.specs.Blocks.{blocks};
 ghost use Rattle.ivfc.specs.Verified.{zeroEntry, vouches, firstNot, countOf};
 ghost use Rattle.ivfc.specs.Rows.{agree};
@@ -33,11 +34,13 @@ pub fn entry_vouches(digest: &[u8], entry: &[u8]) -> bool
 
 // Compares digests with entries, one by one.
 fn compare(digests: &[u8], entries: &[u8], n: usize) -> Compared
-    requires { ⌜ (length (now digests) ≡ 32 * n) × (length (now entries) ≡ 32 * n) ⌝ }
+    requires { ⌜ (length (now digests) ≡ 32 * n) × (length (now entries) ≡ 32 * n) × (n ≤ 8) ⌝ }
     ensures { λ r. ⌜ (r .hashed ≡ n) × (r .before ≡ firstNot (agree (now (digests .entry)) (now (entries .entry))) 0 n) × (r .matching ≡ countOf (agree (now (digests .entry)) (now (entries .entry))) n) ⌝ }
+    ensures { λ r. ⌜ (length (r .each) ≡ 8) × ((j : ℕ) → j < n → getD (r .each) j false ≡ agree (now (digests .entry)) (now (entries .entry)) j) ⌝ }
 {
     let mut before = 0;
     let mut matching = 0;
+    let mut each = [false; 8];
     let mut j = 0;
     while j < n {
         let at = j * ENTRY;
@@ -45,19 +48,21 @@ fn compare(digests: &[u8], entries: &[u8], n: usize) -> Compared
         let same = entry_vouches(&digests[at..end], &entries[at..end]);
         before += (same & (before == j as u64)) as u64;
         matching += same as u64;
+        each[j] = same;
         j += 1;
     }
     Compared {
         hashed: n as u64,
         before,
         matching,
+        each,
     }
 }
 
 // Hashes some blocks of level i from b on, before end, and compares them with their entries.
-fn compare_from(view: View, image: &[u8], i: u64, b: u64, end: u64) -> Compared
+pub fn compare_from(view: View, image: &[u8], i: u64, b: u64, end: u64) -> Compared
     requires { ⌜ (ViewRules view (length (now image))) × (1 ≤ i) × (i ≤ 4) × (b < end) × (end ≤ blocks (levelOf view i)) ⌝ }
-    ensures { λ r. ⌜ (0 < r .hashed) × (b + r .hashed ≤ end) × (b + r .before ≡ firstNot (matches view (now (image .entry)) i) b (r .hashed)) ⌝ }
+    ensures { λ r. ⌜ (0 < r .hashed) × (b + r .hashed ≤ end) × (b + r .before ≡ firstNot (matches view (now (image .entry)) i) b (r .hashed)) × (r .hashed ≤ 8) × (length (r .each) ≡ 8) × ((j : ℕ) → j < r .hashed → getD (r .each) j false ≡ matches view (now (image .entry)) i (b + j)) ⌝ }
     ensures { λ r. ⌜ r .matching ≡ countOf (λ (j : ℕ). matches view (now (image .entry)) i (b + j)) (r .hashed) ⌝ }
 {
     let digests = digests_from(view, image, i, b, end);

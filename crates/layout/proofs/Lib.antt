@@ -1,3 +1,4 @@
+pub mod AnswerLaws
 pub mod Rules
 pub mod HeaderLaws
 pub mod TableLaws

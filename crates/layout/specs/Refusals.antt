@@ -1,8 +1,16 @@
--- The paper's number of each refusal, and the value that it carries.
+-- What answers say in the paper's terms: a number, and the value that it carries.
 use Prim.Native.Nat.{ℕ}
+use mathlib.Core.Path.{_≡_}
+use Rattle.layout.specs.declared.Outcome.{Outcome}
+use Rattle.layout.specs.declared.Outcome.the-variants as outcome
+use Rattle.layout.specs.declared.Opened.{Opened}
+use Rattle.layout.specs.declared.Opened.the-variants as opening
 use Rattle.layout.specs.declared.Refusal.{Refusal}
 use Rattle.layout.specs.declared.Refusal.the-variants.{Length, Format, Selection, Geometry, TableHash, Descriptor, Placement, NoPartition, OutOfRange, Unverified, SessionState, Stale, SignerKind, Signature, DigestTooLong, InvalidEntry, NoSave, BlankSize, NothingToRevert}
 
+-- ---- refusals
+
+-- the paper's number of each
 abbrev pub number : Refusal → ℕ
 number Length = 1
 number Format = 2
@@ -45,3 +53,30 @@ carried NoSave = 0
 carried BlankSize = 0
 carried NothingToRevert = 0
 carried DigestTooLong = 0
+
+-- ---- answers
+
+-- what an answer says: 0 for accepted, else the refusal's number; and a value
+pub record Said : Type 0 where
+  pub number : ℕ
+  pub value : ℕ
+
+abbrev pub accepts : (value : ℕ) → Said
+accepts value = record { number = 0; value = value }
+
+abbrev pub refuses : Refusal → Said
+refuses r = record { number = number r; value = carried r }
+
+-- each enum that is an answer has such a definition, beside its calls; these two are opening's and that of calls which answer no more than yes
+abbrev pub outcomeSays : Outcome → Said
+outcomeSays outcome.Accepted = accepts 0
+outcomeSays (outcome.Refused r) = refuses r
+
+abbrev pub openedSays : Opened → Said
+openedSays (opening.Valid c) = accepts 0
+openedSays (opening.Refused r) = refuses r
+
+-- a call's answer is the one that its definition gives: the enum's case, and so what it says
+pub record Answers {E : Type 0} (says : E → Said) (answer given : E) : Type 0 where
+  pub case : answer ≡ given
+  pub said : says answer ≡ says given

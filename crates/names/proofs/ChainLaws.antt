@@ -19,11 +19,11 @@ use Rattle.names.specs.declared.Search.{Search}
 use Rattle.names.specs.declared.Search.the-variants as search
 use Rattle.names.specs.declared.Link.{Link}
 use Rattle.names.specs.declared.Link.the-variants as link
-use Rattle.names.specs.Marks.{left}
+use Rattle.number.specs.Marks.{left}
 use Rattle.names.specs.Entries.{admit, place}
 use Rattle.names.specs.Listing.{Entry, file, seenFile}
 use Rattle.names.specs.Searching.{linked, along, linkAt, chainIn, chain, counted}
-use Rattle.names.proofs.MarkLaws.{left-fewer, left-le}
+use Rattle.number.proofs.MarkLaws.{left-fewer, left-le}
 use Rattle.names.proofs.EntryLaws.{admit-at}
 
 along-cong : (l : Link) (f g : ℕ → Search) → ((x : ℕ) → l ≡ link.Next x → f x ≡ g x) → along l f ≡ along l g

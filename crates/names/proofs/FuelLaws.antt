@@ -9,10 +9,10 @@ use lib.Dec.{eqb, ltb}
 use Rattle.names.specs.declared.Save.{Save}
 use Rattle.names.specs.declared.Reach.{Reach}
 use Rattle.names.specs.declared.Reach.the-variants as reach
-use Rattle.names.specs.Marks.{left}
+use Rattle.number.specs.Marks.{left}
 use Rattle.names.specs.Entries.{admit, sibling, firstFolder, firstFile, nextFile}
 use Rattle.names.specs.Listing.{Entry, folder, file, Outcome, listed, invalid, unverified, seenFolder, seenFile, next, joins, meetFolder, meetFile, filesIn, files, folderOver, foldersIn, folders, folderAt}
-use Rattle.names.proofs.MarkLaws.{left-fewer, left-same, left-le}
+use Rattle.number.proofs.MarkLaws.{left-fewer, left-same, left-le}
 use Rattle.names.proofs.EntryLaws.{admit-at}
 
 -- two ways to go on that agree on what was met

@@ -1,5 +1,4 @@
 -- What the proofs of several functions use.
-pub mod MarkLaws
 pub mod EntryLaws
 pub mod MeetLaws
 pub mod FuelLaws

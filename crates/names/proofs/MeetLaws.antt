@@ -9,6 +9,7 @@ use lib.ListN.{length, getD}
 use lib.Seq.{sets}
 use borrow.Author.Tests.{lt-ltb}
 use Rattle.number.specs.Bytes.{bytes}
+use Rattle.number.specs.Marks.{Marks}
 use Rattle.number.proofs.ListLaws.{sets-append}
 use Rattle.names.specs.declared.Table.{Table}
 use Rattle.names.specs.declared.Reach.{Reach}
@@ -16,7 +17,7 @@ use Rattle.names.specs.declared.Reach.the-variants as reach
 use Rattle.names.specs.declared.Walked.the-variants as walked
 use Rattle.names.specs.Entries.{place}
 use Rattle.names.specs.Records.{head, putRecord}
-use Rattle.names.specs.Walks.{Marks, metBy, leaves}
+use Rattle.names.specs.Walks.{metBy, leaves}
 
 module _ (t : Table) (kind e n : ℕ) (level4 marks row marks′ row′ : List ℕ) where
   pub meets-invalid : (a : Reach) → a ≡ reach.Invalid → (walked.Invalid ≡ metBy a n) × leaves a t kind e n level4 marks row marks′ row′

@@ -18,12 +18,12 @@ use Rattle.names.specs.declared.Reach.{Reach}
 use Rattle.names.specs.declared.Reach.the-variants as reach
 use Rattle.names.specs.declared.Walked.{Walked}
 use Rattle.names.specs.declared.Walked.the-variants as walked
-use Rattle.names.specs.Marks.{marked}
+use Rattle.number.specs.Marks.{marked, Marks}
 use Rattle.names.specs.Entries.{admit, name, sibling, firstFolder, firstFile, nextFile}
 use Rattle.names.specs.Listing.{Entry, folder, file, Outcome, listed, invalid, unverified, seenFolder, seenFile, next, joins, meetFolder, meetFile, files, folders, folderAt, listing}
 use Rattle.names.specs.Records.{head, entryRecord, putRecord, laid, rowAfter}
-use Rattle.names.specs.Walks.{Marks, metBy, leaves, answerOf, Holds, Leaves, Walks, unvisited, Goes, Fewer, Ready, Listable, Lays}
-use Rattle.names.proofs.MarkLaws.{left-fewer, left-le, zeros-unmarked}
+use Rattle.names.specs.Walks.{metBy, leaves, answerOf, Holds, Leaves, Walks, unvisited, Goes, Fewer, Ready, Listable, Lays}
+use Rattle.number.proofs.MarkLaws.{left-fewer, left-le, zeros-unmarked}
 use Rattle.names.proofs.EntryLaws.{admit-at}
 use Rattle.names.proofs.FuelLaws.{files-rule, folders-rule, folder-rule}
 

@@ -1,5 +1,4 @@
 pub mod Records
-pub mod Marks
 pub mod Entries
 pub mod Listing
 pub mod Walks

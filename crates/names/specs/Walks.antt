@@ -1,25 +1,19 @@
 -- What the code's state has to do with the definition: marks, count and row stand for the entries met so far.
 use Prim.Native.Nat.{ℕ, _+_, _*_, _≤_, _<_}
 use mathlib.Core.Path.{_≡_}
-use mathlib.Core.Bool.{_||_}
 use mathlib.Core.List.{List, _++_}
-use lib.Dec.{eqb}
 use lib.ListN.{length}
 use Rattle.number.specs.Bytes.{bytes}
+use Rattle.number.specs.Marks.{marked, Marks, left}
 use Rattle.names.specs.declared.Save.{Save}
 use Rattle.names.specs.declared.Table.{Table}
 use Rattle.names.specs.declared.Reach.{Reach}
 use Rattle.names.specs.declared.Reach.the-variants as reach
 use Rattle.names.specs.declared.Walked.{Walked}
 use Rattle.names.specs.declared.Walked.the-variants as walked
-use Rattle.names.specs.Marks.{marked, left}
 use Rattle.names.specs.Entries.{name}
 use Rattle.names.specs.Listing.{Entry, Outcome, listed, invalid, unverified, seenFolder, seenFile}
 use Rattle.names.specs.Records.{head, putRecord, laid}
-
--- the marks with one entry more
-abbrev pub Marks : (marks : List ℕ) → (e : ℕ) → (after : List ℕ) → Type 0
-Marks marks e after = (x : ℕ) → marked after x ≡ (eqb x e || marked marks x)
 
 -- ---- one entry
 

@@ -3,7 +3,6 @@
 
 pub mod hashing;
 pub mod header;
-pub mod marks;
 pub mod records;
 
 // An entry table: where it starts in level 4, the size of an entry, entry 0's current count, and the header's maximum of entries.

@@ -10,10 +10,10 @@ use native.Mathlib.Decide.{ℕ-discrete, decLt}
 use lib.ListN.{length, getD, take, drop, set, replicate, length-set, length-take, length-drop, length-append, length-replicate, replicate-append-replicate, drop-of-length-le}
 use lib.Seq.{ext-getD, getD-take, getD-drop, getD-set-same, getD-set-other, sets, sets-eq, length-sets, drop-cons, drop-length, drop-at, take-at, take-nil, take-all}
 use lib.Dec.{eqb}
-use mathlib.Core.Bool.{Bool, true, false, _&&_, true≢false}
-use borrow.Author.Tests.{eq-eqb, ne-eqb, eqb-true}
+use mathlib.Core.Bool.{Bool, true, false, _&&_, and-assoc, true≢false}
+use borrow.Author.Tests.{eq-eqb, eqb-true}
 use Rattle.number.specs.Bytes.{bytes, Outside, copied, sameBytes}
-use Rattle.number.proofs.Tests.{and-left, and-right, left-fails}
+use Rattle.number.proofs.Tests.{and-left, and-right}
 
 -- ---- a place inside or outside an interval
 
@@ -223,15 +223,13 @@ same-lengths a b h = go (sameBytes a b) refl
     go true e = absurd (h (ap length (same-is a b e)))
     go false e = refl
 
--- as a loop compares them: what is left decides, a byte more, a difference, the end
-module _ (a b : List ℕ) (i : ℕ) (h : i < length a) (k : i < length b) where
-  pub same-step : getD a i 0 ≡ getD b i 0 → sameBytes (drop i a) (drop i b) ≡ sameBytes (drop (i + 1) a) (drop (i + 1) b)
-  unfolding sameBytes
-  same-step e = rw (add-one, drop-cons a i 0 h, drop-cons b i 0 k, eq-eqb (getD a i 0) (getD b i 0) e)
-
-  pub same-stop : (getD a i 0 ≡ getD b i 0 → ⊥) → sameBytes (drop i a) (drop i b) ≡ false
-  unfolding sameBytes
-  same-stop e = rw (drop-cons a i 0 h, drop-cons b i 0 k) (left-fails (eqb (getD a i 0) (getD b i 0)) _ (ne-eqb _ _ e))
+-- as a loop compares them: a byte, and what is left; at the end nothing is
+pub same-turn : (a b : List ℕ) (i : ℕ) (same : Bool) → i < length a → i < length b
+    → same && sameBytes (drop i a) (drop i b) ≡ (same && eqb (getD a i 0) (getD b i 0)) && sameBytes (drop (i + 1) a) (drop (i + 1) b)
+unfolding sameBytes
+same-turn a b i same h k =
+    rw (add-one, drop-cons a i 0 h, drop-cons b i 0 k)
+    (sym (and-assoc same (eqb (getD a i 0) (getD b i 0)) (sameBytes (drop (suc i) a) (drop (suc i) b))))
 
 pub same-end : (a b : List ℕ) (i : ℕ) → length a ≡ length b → length a ≤ i → sameBytes (drop i a) (drop i b) ≡ true
 unfolding sameBytes

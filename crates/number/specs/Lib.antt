@@ -2,4 +2,5 @@ pub mod Fields
 pub mod Ranges
 pub mod Blocks
 pub mod Bytes
+pub mod Marks
 pub mod Frame

@@ -2,6 +2,7 @@
 
 pub mod blocks;
 pub mod fields;
+pub mod marks;
 pub mod ranges;
 pub mod runs;
 

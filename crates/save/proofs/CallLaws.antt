@@ -25,7 +25,7 @@ use Rattle.names.specs.declared.Walked.{Walked}
 use Rattle.names.specs.Listing.{Outcome, listed, invalid, unverified, listing}
 use Rattle.names.specs.Opening.{openSave}
 use Rattle.names.specs.Walks.{answerOf, Listable, Searchable}
-use Rattle.names.proofs.MarkLaws.{zeros-unmarked}
+use Rattle.number.proofs.MarkLaws.{zeros-unmarked}
 use Rattle.names.proofs.OpenLaws.{valid-listable, valid-searchable}
 use Rattle.entries.specs.Known.{Legible}
 use Rattle.entries.proofs.ReadLaws.{length-level4}

@@ -10,11 +10,13 @@ use layout::opening::open;
 use steps::answers::refusal_of;
 use views::places::committed_view;
 ghost use mathlib.Core.Path.{_≡_};
+ghost use Rattle.layout.specs.Refusals.{Answers};
+ghost use Rattle.save.specs.Answers.{listedSays, soughtSays};
 ghost use Rattle.save.specs.Calls.{listNames, findFile};
 
 // Lists the folders and files of a save into the row, as far as it has room, and answers how many there are.
 pub fn list_names(image: &[u8], row: &mut [u8]) -> Listed
-    ensures answer { λ r. ⌜ r ≡ listNames (now (image .entry)) (now (row .entry)) .answer ⌝ }
+    ensures answer { λ r. ⌜ Answers listedSays r (listNames (now (image .entry)) (now (row .entry)) .answer) ⌝ }
     ensures names { λ _. ⌜ now (row .exit) ≡ listNames (now (image .entry)) (now (row .entry)) .row ⌝ }
 {
     let answer = open(image);
@@ -29,7 +31,7 @@ pub fn list_names(image: &[u8], row: &mut [u8]) -> Listed
 
 // The entry number of the file that has a name, of 16 bytes, in a folder.
 pub fn find_file(image: &[u8], folder: u64, name: &[u8; 16]) -> Sought
-    ensures { λ r. ⌜ r ≡ findFile (now (image .entry)) folder (now (name .entry)) ⌝ }
+    ensures { λ r. ⌜ Answers soughtSays r (findFile (now (image .entry)) folder (now (name .entry))) ⌝ }
 {
     let answer = open(image);
     let Opened::Valid(c) = answer else {

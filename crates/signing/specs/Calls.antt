@@ -11,6 +11,7 @@ use Rattle.layout.specs.declared.Outcome.{Outcome}
 use Rattle.layout.specs.declared.Outcome.the-variants as outcome
 use Rattle.layout.specs.declared.Refusal.{Refusal}
 use Rattle.layout.specs.declared.Refusal.the-variants.{Length, Format, SignerKind}
+use Rattle.layout.specs.Refusals.{Said, accepts, refuses}
 use Rattle.layout.specs.Magic.{opensWith}
 use Rattle.layout.specs.Headers.{headerBytes, headerMagic}
 use Rattle.limits.specs.Limits.{lengthAllowed}
@@ -53,6 +54,10 @@ outcomeOf (Refused r) = outcome.Refused r
 abbrev pub builtAs : Answer → Built
 builtAs (Signs block) = built.Bytes (length block)
 builtAs (Refused r) = built.Refused r
+
+abbrev pub builtSays : Built → Said
+builtSays (built.Bytes n) = accepts n
+builtSays (built.Refused r) = refuses r
 
 -- the longest block, that of extdata: as many bytes are lent
 abbrev pub longestBlock : ℕ

@@ -50,9 +50,6 @@ module _ (image : List ℕ) (a : Opened) (o : a ≡ opened image) where
     pub committed-keeps : (view : View) → view ≡ committedView c q → ViewRules view (length image)
     committed-keeps view v = rw v (committed-rules image c (opens-well c e) q (ltb-true q (partitions c) there))
 
-    pub staged-keeps : (view : View) → view ≡ stagedView c q → ViewRules view (length image)
-    staged-keeps view v = rw v (staged-rules image c (opens-well c e) q (ltb-true q (partitions c) there))
-
   module _ (q place : ℕ) (buffer : List ℕ) where
     pub committed-unopened : (r x : Refusal) → a ≡ opening.Refused r → x ≡ refusalOf a → Leaves (readCommitted image q place buffer) (outcome.Refused x) buffer
     unfolding readCommitted
@@ -67,31 +64,6 @@ module _ (image : List ℕ) (a : Opened) (o : a ≡ opened image) where
           → Leaves (readFrom view image place buffer) answer after → Leaves (readCommitted image q place buffer) answer after
       unfolding readCommitted
       committed-there k view v answer after l = rw (sym o ∙ e, k, ← v) l
-
-    module _ (session : Session) where
-      pub staged-unopened : (r x : Refusal) → a ≡ opening.Refused r → x ≡ refusalOf a → Leaves (readStaged image session q place buffer) (outcome.Refused x) buffer
-      unfolding readStaged
-      staged-unopened r x e h = (rw (sym o ∙ e) (ap outcome.Refused (refusal-is a r x e h)), rw (sym o ∙ e))
-
-      module _ (c : Container) (e : a ≡ opening.Valid c) where
-        pub staged-idle : session .begun ≡ false → Leaves (readStaged image session q place buffer) (outcome.Refused SessionState) buffer
-        unfolding readStaged
-        staged-idle b = (rw (sym o ∙ e, b), rw (sym o ∙ e, b))
-
-        module _ (b : session .begun ≡ true) where
-          pub staged-stale : current c image session ≡ false → Leaves (readStaged image session q place buffer) (outcome.Refused Stale) buffer
-          unfolding readStaged
-          staged-stale s = (rw (sym o ∙ e, s, b), rw (sym o ∙ e, s, b))
-
-          pub staged-missing : current c image session ≡ true → ltb q (partitions c) ≡ false
-              → Leaves (readStaged image session q place buffer) (outcome.Refused NoPartition) buffer
-          unfolding readStaged
-          staged-missing s k = (rw (sym o ∙ e, s, b, k), rw (sym o ∙ e, s, b, k))
-
-          pub staged-there : current c image session ≡ true → ltb q (partitions c) ≡ true → (view : View) → view ≡ stagedView c q → (answer : Outcome) (after : List ℕ)
-              → Leaves (readFrom view image place buffer) answer after → Leaves (readStaged image session q place buffer) answer after
-          unfolding readStaged
-          staged-there s k view v answer after l = rw (sym o ∙ e, s, b, k, ← v) l
 
   module _ (q : ℕ) where
     pub verdict-unopened : (block : ℕ) (r x : Refusal) → a ≡ opening.Refused r → x ≡ refusalOf a → verdict.Refused x ≡ isVerified image q block

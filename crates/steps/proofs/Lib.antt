@@ -8,3 +8,4 @@ pub mod JudgeLaws
 pub mod CallLaws
 pub mod StaleLaws
 pub mod SessionLaws
+pub mod EnterLaws

@@ -13,6 +13,7 @@ use Rattle.layout.specs.declared.Refusal.the-variants.{NoPartition, SessionStat
 use Rattle.layout.specs.Headers.{headerBytes}
 use Rattle.layout.specs.Opening.{opened}
 use Rattle.layout.specs.Guarantees.{Guarantees}
+use Rattle.layout.proofs.AnswerLaws.{answers}
 use Rattle.layout.proofs.GuaranteeLaws.{guarantees}
 use Rattle.dpfs.specs.declared.Space.{Space}
 use Rattle.ivfc.specs.declared.View.{View}
@@ -36,11 +37,11 @@ use Rattle.steps.specs.Calls.{refusalOf, After, Stepped, unchanged, done
 use Rattle.steps.proofs.WriteLaws.{write-rules}
 
 -- which arm of a test is taken
-yes-of : {A : Type 0} (t : Bool) (a b : A) → t ≡ true → cond t a b ≡ a
+pub yes-of : {A : Type 0} (t : Bool) (a b : A) → t ≡ true → cond t a b ≡ a
 yes-of true a b e = refl
 yes-of false a b e = absurd (true≢false (sym e))
 
-no-of : {A : Type 0} (t : Bool) (a b : A) → t ≡ false → cond t a b ≡ b
+pub no-of : {A : Type 0} (t : Bool) (a b : A) → t ≡ false → cond t a b ≡ b
 no-of true a b e = absurd (true≢false e)
 no-of false a b e = refl
 
@@ -48,10 +49,10 @@ no-of false a b e = refl
 abbrev pub Refuses : Step → Session → Refusal → Type 0
 Refuses step session r = (step .outcome ≡ ending.Refused r) × (step .session ≡ session)
 
-stepped-refused : (step : Step) (image : List ℕ) (session : Session) (r : Refusal) (after : After) → after ≡ unchanged image session r
+pub stepped-refused : (step : Step) (image : List ℕ) (session : Session) (r : Refusal) (after : After) → after ≡ unchanged image session r
     → Refuses step session r → Stepped step image after
 stepped-refused step image session r after e (o, s) = record {
-  outcome = o ∙ sym (ap (λ (a : After). a .outcome) e);
+  outcome = answers (o ∙ sym (ap (λ (a : After). a .outcome) e));
   session = s ∙ sym (ap (λ (a : After). a .session) e);
   stored = sym (ap (λ (a : After). a .image) e);
 }
@@ -59,7 +60,7 @@ stepped-refused step image session r after e (o, s) = record {
 stepped-done : (step : Step) (image left : List ℕ) (session : Session) (after : After) → after ≡ done image session → step .outcome ≡ ending.Accepted → step .session ≡ session
     → left ≡ image → Stepped step left after
 stepped-done step image left session after e o s l = record {
-  outcome = o ∙ sym (ap (λ (a : After). a .outcome) e);
+  outcome = answers (o ∙ sym (ap (λ (a : After). a .outcome) e));
   session = s ∙ sym (ap (λ (a : After). a .session) e);
   stored = l ∙ sym (ap (λ (a : After). a .image) e);
 }
@@ -69,7 +70,7 @@ stepped-finished : (zero : Bool) (step : Step) (image left : List ℕ) (session 
     → after ≡ cond zero (record { outcome = ending.Dropped; image = image; session = idle }) (done image session)
     → (step .outcome ≡ cond zero ending.Dropped ending.Accepted) × (step .session ≡ cond zero idle session) → left ≡ image → Stepped step left after
 stepped-finished true step image left session after e (o, s) l = record {
-  outcome = o ∙ sym (ap (λ (a : After). a .outcome) e);
+  outcome = answers (o ∙ sym (ap (λ (a : After). a .outcome) e));
   session = s ∙ sym (ap (λ (a : After). a .session) e);
   stored = l ∙ sym (ap (λ (a : After). a .image) e);
 }
@@ -85,14 +86,6 @@ module _ (image : List ℕ) (answer : Opened) (a : answer ≡ opened image) (ses
     pub begin-unopened : Stepped step image (begin image session)
     unfolding begin
     begin-unopened = stepped-refused step image session refusal _ (rw is) s
-
-    -- write, commit and signed commit
-    pub session-unopened : (next : Container → After) → Stepped step image (inSession image session next (opened image))
-    session-unopened next = stepped-refused step image session refusal _ (rw is) s
-
-    -- revert and signed revert
-    pub revert-unopened : (next : After) → Stepped step image (reverting image session next (opened image))
-    revert-unopened next = stepped-refused step image session refusal _ (rw is) s
 
   -- ---- one that does
 
@@ -116,49 +109,6 @@ module _ (image : List ℕ) (answer : Opened) (a : answer ≡ opened image) (ses
     begin-done b header left h l =
         stepped-done _ (begunImage c image) left (begunWith (headerBytes image)) _ (begun-is ∙ no-of (session .begun) _ _ b) refl
         (ap begunWith h) l
-
-    -- revert and signed revert: 13, 21
-    module _ (next : After) where
-      reverting-is : reverting image session next (opened image)
-          ≡ cond (session .begun) (unchanged image session SessionState)
-          (cond (revertible image (session .header) (session .later)) next (unchanged image session NothingToRevert))
-      reverting-is = ap (reverting image session next) valid
-
-      pub revert-busy : session .begun ≡ true → (step : Step) → Refuses step session SessionState → Stepped step image (reverting image session next (opened image))
-      revert-busy b step s = stepped-refused step image session SessionState _ (reverting-is ∙ yes-of (session .begun) _ _ b) s
-
-      module _ (b : session .begun ≡ false) where
-        pub revert-none : revertible image (session .header) (session .later) ≡ false → (step : Step) → Refuses step session NothingToRevert
-            → Stepped step image (reverting image session next (opened image))
-        revert-none n step s =
-            stepped-refused step image session NothingToRevert _
-            (reverting-is ∙ no-of (session .begun) _ _ b ∙ no-of (revertible image (session .header) (session .later)) _ _ n) s
-
-        pub revert-goes-on : revertible image (session .header) (session .later) ≡ true → (step : Step) (left : List ℕ) → Stepped step left next
-            → Stepped step left (reverting image session next (opened image))
-        revert-goes-on y step left s =
-            subst (Stepped step left)
-            (sym (reverting-is ∙ no-of (session .begun) _ _ b ∙ yes-of (revertible image (session .header) (session .later)) _ _ y)) s
-
-    -- write, commit and signed commit: 13, 14
-    module _ (next : Container → After) where
-      session-is : inSession image session next (opened image)
-          ≡ cond (session .begun) (cond (current c image session) (next c) (unchanged image session Stale)) (unchanged image session SessionState)
-      session-is = ap (inSession image session next) valid
-
-      pub session-idle : session .begun ≡ false → (step : Step) → Refuses step session SessionState → Stepped step image (inSession image session next (opened image))
-      session-idle b step s = stepped-refused step image session SessionState _ (session-is ∙ no-of (session .begun) _ _ b) s
-
-      module _ (b : session .begun ≡ true) where
-        pub session-stale : current c image session ≡ false → (step : Step) → Refuses step session Stale → Stepped step image (inSession image session next (opened image))
-        session-stale n step s = stepped-refused step image session Stale _ (session-is ∙ yes-of (session .begun) _ _ b ∙ no-of (current c image session) _ _ n) s
-
-        module _ (n : current c image session ≡ true) where
-          reached : inSession image session next (opened image) ≡ next c
-          reached = session-is ∙ yes-of (session .begun) _ _ b ∙ yes-of (current c image session) _ _ n
-
-          pub session-goes-on : (step : Step) (left : List ℕ) → Stepped step left (next c) → Stepped step left (inSession image session next (opened image))
-          session-goes-on step left s = subst (Stepped step left) (sym reached) s
 
 -- ---- 8
 

@@ -11,6 +11,7 @@ use Rattle.layout.specs.declared.Opened.{Opened}
 use Rattle.layout.specs.declared.Opened.the-variants as opening
 use Rattle.layout.specs.declared.Refusal.{Refusal}
 use Rattle.layout.specs.declared.Refusal.the-variants.{Length, NoPartition, SessionState, Stale, NothingToRevert}
+use Rattle.layout.specs.Refusals.{Answers}
 use Rattle.layout.specs.Headers.{headerBytes}
 use Rattle.layout.specs.Opening.{opened}
 use Rattle.ivfc.specs.declared.View.{View}
@@ -26,6 +27,7 @@ use Rattle.steps.specs.declared.Ending.{Ending}
 use Rattle.steps.specs.declared.Ending.the-variants as ending
 use Rattle.steps.specs.declared.Session.{Session}
 use Rattle.steps.specs.declared.Step.{Step}
+use Rattle.steps.specs.Answers.{endingSays}
 use Rattle.steps.specs.Reading.{Read, readFrom, verdictOn, countIn}
 use Rattle.steps.specs.Sessions.{idle, begunWith, remembering, begunImage, current, writeOutcome, revertible}
 use Rattle.signing.specs.declared.Signer.{Signer}
@@ -97,7 +99,7 @@ done image session = record { outcome = ending.Accepted; image = image; session 
 
 -- a call's step, and the image that it left, are what the definition says
 pub record Stepped (step : Step) (image : List ℕ) (after : After) : Type 0 where
-  pub outcome : step .outcome ≡ after .outcome
+  pub outcome : Answers endingSays (step .outcome) (after .outcome)
   pub session : step .session ≡ after .session
   pub stored : image ≡ after .image
 

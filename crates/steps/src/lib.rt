@@ -3,6 +3,7 @@ use layout::Refusal;
 
 pub mod answers;
 pub mod beginning;
+pub mod entering;
 pub mod judging;
 pub mod reverting;
 pub mod staleness;

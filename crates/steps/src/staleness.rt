@@ -6,95 +6,76 @@ use layout::HEADER;
 use layout::tables::active_range;
 use layout::tables::inactive_range;
 use number::fields::byte;
+use number::ranges::part_of;
 use number::runs::same_bytes;
 use views::places::partition_of;
 use views::places::slot_of;
 ghost use mathlib.Core.Path.{_≡_};
 ghost use mathlib.Core.Bool.{_||_};
-ghost use mathlib.Core.List.{List};
-ghost use Prim.Native.Nat.{ℕ, _+_, _^_, _<_, _≤_};
+ghost use Prim.Native.Nat.{ℕ, _+_, _-_, _≤_};
 ghost use lib.Dec.{eqb};
 ghost use lib.ListN.{length, getD};
-ghost use Rattle.layout.specs.Tables.{inactive};
 ghost use Rattle.layout.specs.Guarantees.{Guarantees};
-ghost use Rattle.views.specs.Places.{slotOf, partitionOf};
-ghost use Rattle.steps.specs.Sessions.{selectorPlace, selectorFlipped, inMaster, inSomeMaster, stagedTable, tableStaged, current};
+ghost use Rattle.steps.specs.Rules.{HoldsMarks};
+ghost use Rattle.steps.specs.Sessions.{selectorFlipped, inMaster, allBelow, tableStaged, current};
 
 // Where the selector stands in a descriptor.
 pub const SELECTOR: u64 = 0x39;
 
-// A place of a table lies in the master hash of partition q.
-fn in_master(c: Container, q: u64, i: u64) -> bool
-    requires { ⌜ slotOf c q .descriptor .offset + partitionOf c q .difi .master .offset + partitionOf c q .difi .master .size < 2 ^ 64 ⌝ }
-    ensures { λ r. ⌜ r ≡ inMaster c q i ⌝ }
+// The places of a table from `start` to `end` have the same bytes in both.
+fn run_same(active: &[u8], inactive: &[u8], start: u64, end: u64) -> bool
+    requires { ⌜ (start ≤ end) × (end ≤ length (now active)) × (length (now inactive) ≡ length (now active)) ⌝ }
+    ensures { λ r. ⌜ r ≡ allBelow (end - start) (λ (k : ℕ). eqb (getD (now (inactive .entry)) (start + k) 0) (getD (now (active .entry)) (start + k) 0)) ⌝ }
 {
-    let master = partition_of(c, q).difi.master;
-    let start = slot_of(c, q).descriptor.offset + master.offset;
-    (start <= i) & (i < start + master.size)
+    let from = start as usize;
+    let to = end as usize;
+    same_bytes(&inactive[from..to], &active[from..to])
 }
 
-// It lies in some master hash.
-fn in_some_master(image: &[u8], c: Container, i: u64) -> bool
-    requires { ⌜ Guarantees (now image) c ⌝ }
-    ensures { λ r. ⌜ r ≡ inSomeMaster c i ⌝ }
+// The places from `start` to `end`, where partition q's selector stands and then its master hash: but for these two a run is the same.
+fn partition_staged(
+    active: &[u8],
+    inactive: &[u8],
+    c: Container,
+    q: u64,
+    start: u64,
+    end: u64,
+) -> bool
+    requires { ⌜ (HoldsMarks c q start end) × (end ≤ length (now active)) × (length (now inactive) ≡ length (now active)) ⌝ }
+    ensures { λ r. ⌜ r ≡ allBelow (end - start) (λ (k : ℕ). inMaster c q (start + k) || eqb (getD (now (inactive .entry)) (start + k) 0) (getD (selectorFlipped c q (now (active .entry))) (start + k) 0)) ⌝ }
 {
-    let first = in_master(c, 0, i);
-    if c.header.count == 2 {
-        first | in_master(c, 1, i)
-    } else {
-        first
-    }
+    let descriptor = slot_of(c, q).descriptor.offset;
+    let difi = partition_of(c, q).difi;
+    let selector = descriptor + SELECTOR;
+    let master = descriptor + difi.master.offset;
+    let end_of_master = master + difi.master.size;
+    run_same(active, inactive, start, selector)
+        & (byte(inactive, selector as usize) == 1 - difi.selector)
+        & run_same(active, inactive, selector + 1, master)
+        & run_same(active, inactive, end_of_master, end)
 }
 
-// Byte i of a table whose byte there is `before`, with partition q's selector flipped.
-fn flipped_byte(c: Container, q: u64, i: u64, before: u8) -> u8
-    requires { ⌜ (selectorPlace (slotOf c q) < 2 ^ 64) × (partitionOf c q .difi .selector ≤ 1) ⌝ }
-    ensures { λ r. ⌜ ((table : List ℕ) → i < length table → getD table i 0 ≡ before → r ≡ getD (selectorFlipped c q table) i 0) ⌝ }
-{
-    if slot_of(c, q).descriptor.offset + SELECTOR == i {
-        1 - partition_of(c, q).difi.selector
-    } else {
-        before
-    }
-}
-
-// Byte i of the active table with each partition's selector flipped.
-fn staged_byte(image: &[u8], c: Container, i: u64) -> u8
-    requires { ⌜ (Guarantees (now image) c) × (i < inactive (c .header) .size) ⌝ }
-    ensures { λ r. ⌜ r ≡ getD (stagedTable c (now (image .entry))) i 0 ⌝ }
-{
-    let place = active_range(c.header).offset + i;
-    let first = flipped_byte(c, 0, i, byte(image, place as usize));
-    if c.header.count == 2 {
-        flipped_byte(c, 1, i, first)
-    } else {
-        first
-    }
-}
-
-// Byte i of the inactive table is the staged one, or lies in a master hash.
-fn byte_staged(image: &[u8], c: Container, i: u64) -> bool
-    requires { ⌜ (Guarantees (now image) c) × (i < inactive (c .header) .size) ⌝ }
-    ensures { λ r. ⌜ r ≡ (inSomeMaster c i || eqb (getD (now (image .entry)) (inactive (c .header) .offset + i) 0) (getD (stagedTable c (now (image .entry))) i 0)) ⌝ }
-{
-    let place = inactive_range(c.header).offset + i;
-    in_some_master(image, c, i) | (byte(image, place as usize) == staged_byte(image, c, i))
-}
-
-// The inactive table is the active one with selectors flipped and any master hashes.
+// The inactive table is the active one with selectors flipped and any master hashes. Two descriptors lie one behind the other, so the table is cut where
+// the second one starts.
 fn table_staged(image: &[u8], c: Container) -> bool
     requires { ⌜ Guarantees (now image) c ⌝ }
     ensures { λ r. ⌜ r ≡ tableStaged c (now (image .entry)) ⌝ }
 {
+    let active = part_of(image, active_range(c.header));
+    let inactive = part_of(image, inactive_range(c.header));
     let n = inactive_range(c.header).size;
-    let mut i = 0;
-    while i < n {
-        if !byte_staged(image, c, i) {
-            return false;
-        }
-        i += 1;
+    if c.header.count != 2 {
+        return partition_staged(active, inactive, c, 0, 0, n);
     }
-    true
+    let a = c.header.a.descriptor.offset;
+    let b = c.header.b.descriptor.offset;
+    if a < b {
+        partition_staged(active, inactive, c, 0, 0, b)
+            & partition_staged(active, inactive, c, 1, b, n)
+    } else {
+        partition_staged(active, inactive, c, 1, 0, a)
+            & partition_staged(active, inactive, c, 0, a, n)
+    }
 }
 
 // The header is the remembered one too.

@@ -27,7 +27,7 @@ ghost use Rattle.dpfs.specs.Staging.{OffLive2, same, blockCopied, moved2, moved
 ghost use Rattle.dpfs.specs.Rules.{Among, blockRest};
 ghost use Rattle.stores.specs.Rules.{OwnSpace, CopyRules, BlockRules};
 
-// The one store to an image before a commit: at a free place.
+// The one store to an image before a commit: at a free place of the image's own space.
 pub fn store(space: Space, image: &mut [u8], i: u64, value: u8)
     requires { ⌜ (OwnSpace space (now image)) × (Free space (now image) i) × (i < length (now image)) ⌝ }
     ensures { λ _. ⌜ now (image .exit) ≡ set (now (image .entry)) i value ⌝ }

@@ -86,9 +86,9 @@ outer-fits view i x n e fit =
     omega arith
 
 -- such bytes end in the image
-pub ends : {view : View} {image : List ℕ} → OwnView view image → (x n : ℕ) → view .external ≡ true → x + n ≤ view .level4 .size
+pub outer-ends : {view : View} {image : List ℕ} → OwnView view image → (x n : ℕ) → view .external ≡ true → x + n ≤ view .level4 .size
     → (view .outside + x + n ≤ length image) × (length image ≤ 0x4000000)
-ends h x n e fit = (omega (arith, view-placed h .outer4 e), view-placed h .tree .limit)
+outer-ends h x n e fit = (omega (arith, view-placed h .outer4 e), view-placed h .tree .limit)
 
 -- what a put, and each step of a write, leaves has the same space and staged view
 module _ {space : Space} {view : View} {image : List ℕ} (h : StagedIn space view image) where

@@ -30,7 +30,7 @@ use Rattle.views.specs.Places.{partitions, slotOf, partitionOf, treeIn, treeOf,
 use Rattle.views.specs.Protected.{ExternalByte}
 use Rattle.views.proofs.PlaceLaws.{present, inactive-partition, tree-inside, space-rules, tree-among, staged-rules, staged-apart, staged-master, first-there}
 use Rattle.views.proofs.ProtectedLaws.{same-or-apart}
-use Rattle.views.proofs.OpenLaws.{Loose, loose-opens}
+use Rattle.views.proofs.OpenLaws.{Storable, storable-opens}
 use Rattle.update.specs.Rules.{outerRange, OuterRules, StagedRules, OwnView, StagedIn}
 
 -- ---- an external level 4 is apart from the inactive table and from the trees
@@ -67,7 +67,7 @@ module _ (image : List ℕ) (c : Container) (g : Guarantees image c) (q : ℕ) (
         }
 
     any-tree : (r : ℕ) → r < partitions c → BeyondAll outerOf (treeOf c r)
-    any-tree r l = by (same-or-apart image c g 0 q r k l)
+    any-tree r l = by (same-or-apart image c g q r k l)
       where
         by : (q ≡ r) ⊎ Apart (slotOf c q .partition) (slotOf c r .partition) → BeyondAll outerOf (treeOf c r)
         by (inl s) = subst (λ (x : ℕ). BeyondAll outerOf (treeOf c x)) s own-tree
@@ -148,7 +148,7 @@ view-kept {view} {image} h after k = record {
   container = h .container;
   partition = h .partition;
   there = h .there;
-  opens = loose-opens image after (h .container) (h .opens) (keeps-more (λ i f. inr (h .partition, h .there, own-outer h i f)) k);
+  opens = storable-opens image after (h .container) (h .opens) (keeps-more (λ i f. inr (h .partition, h .there, own-outer h i f)) k);
   same = h .same;
 }
 
@@ -158,13 +158,13 @@ module _ {space : Space} {view : View} {image : List ℕ} (h : StagedIn space vi
       subst (λ (s : Space). Free s image i)
       (h .places .same ∙ ap spaceOf (one-container image (h .places .container) (h .seen .container) (h .places .opens) (h .seen .opens))) f
 
-  own-loose : (i : ℕ) → Own view image i → Loose (h .seen .container) image i
-  own-loose i (inl (a, b)) = inl (own-free i (table-free space image i (omega (arith, staged h .master-from), omega (arith, staged h .master-to))))
-  own-loose i (inr (inl f)) = inl (own-free i (tree-free space (view .tree) (staged h .among) image i f))
-  own-loose i (inr (inr f)) = inr (h .seen .partition, h .seen .there, own-outer (h .seen) i f)
+  own-storable : (i : ℕ) → Own view image i → Storable (h .seen .container) image i
+  own-storable i (inl (a, b)) = inl (own-free i (table-free space image i (omega (arith, staged h .master-from), omega (arith, staged h .master-to))))
+  own-storable i (inr (inl f)) = inl (own-free i (tree-free space (view .tree) (staged h .among) image i f))
+  own-storable i (inr (inr f)) = inr (h .seen .partition, h .seen .there, own-outer (h .seen) i f)
 
   still : opened after ≡ opened image
-  still = loose-opens image after (h .seen .container) (h .seen .opens) (keeps-more own-loose k) ∙ sym (h .seen .opens)
+  still = storable-opens image after (h .seen .container) (h .seen .opens) (keeps-more own-storable k) ∙ sym (h .seen .opens)
 
   pub staged-kept : StagedIn space view after
   staged-kept = record {

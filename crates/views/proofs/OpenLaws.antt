@@ -22,29 +22,29 @@ use Rattle.views.proofs.PlaceLaws.{present, active-partition}
 use Rattle.views.proofs.ProtectedLaws.{protected-not-free, external-inside, never-both}
 
 -- what a write may store to: a free byte, or one of an external level 4
-abbrev pub Loose : Container → List ℕ → (i : ℕ) → Type 0
-Loose c image i = Free (spaceOf c) image i ⊎ ((q : ℕ) × (q < partitions c) × ExternalByte c q i)
+abbrev pub Storable : Container → List ℕ → (i : ℕ) → Type 0
+Storable c image i = Free (spaceOf c) image i ⊎ ((q : ℕ) × (q < partitions c) × ExternalByte c q i)
 
 module _ (image : List ℕ) (c : Container) (g : Guarantees image c) (i : ℕ) where
-  front-fast : InRange front i → Loose c image i → ⊥
+  front-not-storable : InRange front i → Storable c image i → ⊥
   unfolding Protected
-  front-fast h (inl f) = protected-not-free image c g i (inl h) f
-  front-fast h (inr (q, k, x)) = omega (arith, external-inside image c g i q k x, present image c g q k .slot .partitionFront)
+  front-not-storable h (inl f) = protected-not-free image c g i (inl h) f
+  front-not-storable h (inr (q, k, x)) = omega (arith, external-inside image c g q i k x, present image c g q k .slot .partitionFront)
 
-  active-fast : InRange (active (c .header)) i → Loose c image i → ⊥
+  active-not-storable : InRange (active (c .header)) i → Storable c image i → ⊥
   unfolding Protected
-  active-fast h (inl f) = protected-not-free image c g i (inr (inl h)) f
-  active-fast h (inr (q, k, x)) =
-      never-both (active (c .header)) (slotOf c q .partition) i (active-partition image c g q k) h (external-inside image c g i q k x)
+  active-not-storable h (inl f) = protected-not-free image c g i (inr (inl h)) f
+  active-not-storable h (inr (q, k, x)) =
+      never-both (active (c .header)) (slotOf c q .partition) i (active-partition image c g q k) h (external-inside image c g q i k x)
 
 module _ (image after : List ℕ) (c : Container) (o : opened image ≡ Valid c) where
   g : Guarantees image c
   g = guarantees image c o
 
-  pub loose-opens : Keeps (Loose c image) image after → opened after ≡ Valid c
-  loose-opens k =
-      frame-opened image after c o (sym (k .size)) (λ i a b. sym (k .bytes i (front-fast image c g i (a, b))))
-      (λ i a b. sym (k .bytes i (active-fast image c g i (a, b))))
+  pub storable-opens : Keeps (Storable c image) image after → opened after ≡ Valid c
+  storable-opens k =
+      frame-opened image after c o (sym (k .size)) (λ i a b. sym (k .bytes i (front-not-storable image c g i (a, b))))
+      (λ i a b. sym (k .bytes i (active-not-storable image c g i (a, b))))
 
   pub free-opens : Keeps (Free (spaceOf c) image) image after → opened after ≡ Valid c
-  free-opens k = loose-opens (keeps-more (λ i f. inl f) k)
+  free-opens k = storable-opens (keeps-more (λ i f. inl f) k)

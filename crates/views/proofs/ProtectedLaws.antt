@@ -123,20 +123,7 @@ module _ (tree : Tree) (image : List ℕ) (i : ℕ) where
 
 -- ---- the image
 
-module _ (image : List ℕ) (c : Container) (g : Guarantees image c) (i : ℕ) where
-  some : 0 < partitions c
-  some = first-there (length image) (c .header) (g .header)
-
-  -- a free byte is one of the inactive table, or of some partition's tree
-  free-somewhere : Free (spaceOf c) image i → InRange (inactive (c .header)) i ⊎ ((q : ℕ) × (q < partitions c) × FreeIn (treeOf c q) image i)
-  unfolding Free spaceOf
-  free-somewhere (inl h) = inl h
-  free-somewhere (inr (inl f)) = inr (0, some, f)
-  free-somewhere (inr (inr (e, f))) = inr (1, omega (arith, eqb-true (partitions c) 2 e), f)
-
-  free-in-partition : (q : ℕ) → q < partitions c → FreeIn (treeOf c q) image i → InRange (slotOf c q .partition) i
-  free-in-partition q k f = pairs-inside (treeOf c q) image i (slotOf c q .partition) (tree-inside image c g q k) (free-in-pairs (treeOf c q) image i f)
-
+module _ (image : List ℕ) (c : Container) (g : Guarantees image c) where
   -- two partitions are the same or apart
   pub same-or-apart : (q r : ℕ) → q < partitions c → r < partitions c → (q ≡ r) ⊎ Apart (slotOf c q .partition) (slotOf c r .partition)
   unfolding slotOf
@@ -150,12 +137,27 @@ module _ (image : List ℕ) (c : Container) (g : Guarantees image c) (i : ℕ) w
   same-or-apart (suc zero) (suc (suc r)) h k = absurd (third-missing (length image) (c .header) (g .header) r k)
   same-or-apart (suc (suc q)) r h k = absurd (third-missing (length image) (c .header) (g .header) q h)
 
-  pub external-inside : (q : ℕ) → q < partitions c → ExternalByte c q i → InRange (slotOf c q .partition) i
+  -- an external level 4 lies in its own
+  pub external-inside : (q i : ℕ) → q < partitions c → ExternalByte c q i → InRange (slotOf c q .partition) i
   unfolding ExternalByte
-  external-inside q k (e, h) =
+  external-inside q i k (e, h) =
       let inside : partitionOf c q .difi .outside + partitionOf c q .ivfc .level4 .size ≤ slotOf c q .partition .size
       = present image c g q k .described .guarantees .external e .inside in
       (omega arith, omega arith)
+
+module _ (image : List ℕ) (c : Container) (g : Guarantees image c) (i : ℕ) where
+  some : 0 < partitions c
+  some = first-there (length image) (c .header) (g .header)
+
+  -- a free byte is one of the inactive table, or of some partition's tree
+  free-somewhere : Free (spaceOf c) image i → InRange (inactive (c .header)) i ⊎ ((q : ℕ) × (q < partitions c) × FreeIn (treeOf c q) image i)
+  unfolding Free spaceOf
+  free-somewhere (inl h) = inl h
+  free-somewhere (inr (inl f)) = inr (0, some, f)
+  free-somewhere (inr (inr (e, f))) = inr (1, omega (arith, eqb-true (partitions c) 2 e), f)
+
+  free-in-partition : (q : ℕ) → q < partitions c → FreeIn (treeOf c q) image i → InRange (slotOf c q .partition) i
+  free-in-partition q k f = pairs-inside (treeOf c q) image i (slotOf c q .partition) (tree-inside image c g q k) (free-in-pairs (treeOf c q) image i f)
 
   -- an external level 4 is apart from the pairs of its own partition
   external-pairs : (q : ℕ) → q < partitions c → ExternalByte c q i → InPairs (treeOf c q) i → ⊥
@@ -206,11 +208,11 @@ module _ (image : List ℕ) (c : Container) (g : Guarantees image c) (i : ℕ) w
     where
       other : (r : ℕ) (l : r < partitions c) → FreeIn (treeOf c r) image i → (q ≡ r) ⊎ Apart (slotOf c q .partition) (slotOf c r .partition) → ⊥
       other r l f (inl e) = external-pairs q k x (free-in-pairs (treeOf c q) image i (subst (λ (s : ℕ). FreeIn (treeOf c s) image i) (sym e) f))
-      other r l f (inr a) = never-both (slotOf c q .partition) (slotOf c r .partition) i a (external-inside q k x) (free-in-partition r l f)
+      other r l f (inr a) = never-both (slotOf c q .partition) (slotOf c r .partition) i a (external-inside image c g q i k x) (free-in-partition r l f)
 
       go : InRange (inactive (c .header)) i ⊎ ((r : ℕ) × (r < partitions c) × FreeIn (treeOf c r) image i) → ⊥
-      go (inl t) = never-both (inactive (c .header)) (slotOf c q .partition) i (inactive-partition image c g q k) t (external-inside q k x)
-      go (inr (r, l, f)) = other r l f (same-or-apart q r k l)
+      go (inl t) = never-both (inactive (c .header)) (slotOf c q .partition) i (inactive-partition image c g q k) t (external-inside image c g q i k x)
+      go (inr (r, l, f)) = other r l f (same-or-apart image c g q r k l)
 
   pairs-named : (q : ℕ) → InPairs (treeOf c q) i → NamedBy c q i
   unfolding NamedBy

@@ -24,12 +24,12 @@ returns : tie.Need-returns
 returns c = (
   ended
       (c .ending-answer .ensures)
-      (c .before .before .abandon .ensures .0 ∙ λ i. calls.abandon (c .before .before .before .session-of .ensures i) .outcome),
+      (c .before .before .abandon .ensures .0 .case ∙ λ i. calls.abandon (c .before .before .before .session-of .ensures i) .outcome),
   left
       sessionLeft
       (now (c .before .before .before .before .before .args .session))
       (c .before .session-left .ensures)
-      (c .before .before .abandon .ensures .0 ∙ λ i. calls.abandon (c .before .before .before .session-of .ensures i) .outcome)
+      (c .before .before .abandon .ensures .0 .case ∙ λ i. calls.abandon (c .before .before .before .session-of .ensures i) .outcome)
       (c .before .before .abandon .ensures .1 ∙ λ i. calls.abandon (c .before .before .before .session-of .ensures i) .session),
 )
 

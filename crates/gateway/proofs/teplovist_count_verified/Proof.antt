@@ -1,6 +1,6 @@
 -- The call's contract, through the answer's number.
-use mathlib.Core.Path.{_∙_}
-use Rattle.boundary.specs.Boundary.{countAnswer}
+use mathlib.Core.Path.{ap, _∙_}
+use Rattle.boundary.specs.Boundary.{packed}
 use borrow.Author.Needs.{needs}
 use Rattle.gateway.proofs.teplovist_count_verified.Statement.{statement}
 use Rattle.gateway.proofs.teplovist_count_verified.Tie as tie
@@ -12,7 +12,7 @@ count-answer-requires : tie.Need-count-answer-requires
 count-answer-requires c κs = search needs
 
 returns : tie.Need-returns
-returns c = c .count-answer .ensures ∙ λ i. countAnswer (c .before .count-verified .ensures i)
+returns c = c .count-answer .ensures ∙ ap packed (c .before .count-verified .ensures .said)
 
 pub teplovist-count-verified-spec : {M : Type 1} → statement M
 teplovist-count-verified-spec =

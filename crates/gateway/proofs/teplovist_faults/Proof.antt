@@ -37,6 +37,7 @@ use denote.Triple.Table.{entered, cited}
 use denote.Triple.Clauses.{ensured, lasts}
 use denote.Triple.Walked.{says, Stays, gave-slice, stay-none-slice, walkOf, goes-gave-slice, goes-none-slice, Walks, ends-at, walked, walk-meets}
 use denote.Exit.{yes}
+use Rattle.layout.specs.Refusals.{Answers}
 use Rattle.faults.specs.Faults.{faults, rowAfter, countFaults}
 use Rattle.faults.specs.declared.Fault.{Fault}
 use Rattle.steps.specs.declared.Count.{Count}
@@ -47,7 +48,8 @@ use Rattle.container.proofs.reading.faults as fill
 use Rattle.container.proofs.reading.faults.Symbol as fill-def
 use Rattle.container.proofs.reading.faults.Symbol.{name as #container·reading·faults}
 use Rattle.container.proofs.reading.faults.Met as fill-thm
-use Rattle.boundary.specs.Boundary.{countAnswer}
+use Rattle.steps.specs.Answers.{countSays}
+use Rattle.boundary.specs.Boundary.{packed}
 use Rattle.boundary.proofs.answers.count_answer as number
 use Rattle.boundary.proofs.answers.count_answer.Symbol as number-def
 use Rattle.boundary.proofs.answers.count_answer.Symbol.{name as #boundary·answers·count-answer}
@@ -104,7 +106,7 @@ module _ {M : Type 1} (𝓤 : URA M) (H : Heap 𝓤) (A : Atoms 𝓤) (W : Given
   goes-fill = qed W (Tok ∷ ‵ (owns (ShrSlice (named 0) κ u8 ∷ MutSlice (named 1) κ′ R ∷ []) a vals) ∷ []) ∵ join ! $ frame ! $ done !
 
   abbrev Filled : Count → List Fault → Type 0
-  Filled r zs = (r ≡ countFaults (now s)) × (zs ≡ rowAfter (faults (now s)) (now x))
+  Filled r zs = Answers countSays r (countFaults (now s)) × (zs ≡ rowAfter (faults (now s)) (now x))
 
   abbrev to-number : Count → Val → Number 𝓤 H A mem run .Ghost
   to-number r u = ((tt, tt, tt, (r, tt), (u ∷ [], tt)), tt)
@@ -112,14 +114,14 @@ module _ {M : Type 1} (𝓤 : URA M) (H : Heap 𝓤) (A : Atoms 𝓤) (W : Given
   goes-number : (r : Count) (u : Val) → ent 𝓤 (sem 𝓤 H A (O.the-row .own r (u ∷ []))) (Number 𝓤 H A mem run .pre (to-number r u))
   goes-number r u = qed W (‵ (O.the-row .own r (u ∷ [])) ∷ []) ∵ nothing ! $ move ! (1 ∷ 0 ∷ []) $ join ! $ nothing ! $ join ! $ frame ! $ done !
 
-  number-said : (r : Count) (n : ℕ) → ent 𝓤 (ensured 𝓤 H A number.ended (number.clauses 𝓤 H A mem run) tt (r, tt) tt n) (fact 𝓤 (n ≡ countAnswer r))
-  number-said r n = exE 𝓤 _ (λ ws. snd∗ 𝓤 (sem 𝓤 H A (lasts number.ended tt (r, tt) ws)) (fact 𝓤 (n ≡ countAnswer r)))
+  number-said : (r : Count) (n : ℕ) → ent 𝓤 (ensured 𝓤 H A number.ended (number.clauses 𝓤 H A mem run) tt (r, tt) tt n) (fact 𝓤 (n ≡ packed (countSays r)))
+  number-said r n = exE 𝓤 _ (λ ws. snd∗ 𝓤 (sem 𝓤 H A (lasts number.ended tt (r, tt) ws)) (fact 𝓤 (n ≡ packed (countSays r))))
 
-  exits : (r : Count) (zs : List Fault) (n : ℕ) (u : Val) → Filled r zs → length zs ≡ length (x .now) → n ≡ countAnswer r
+  exits : (r : Count) (zs : List Fault) (n : ℕ) (u : Val) → Filled r zs → length zs ≡ length (x .now) → n ≡ packed (countSays r)
       → ent 𝓤 (⋆ 𝓤 H A (Tok ∷ ‵ (finally R (x .name) zs) ∷ ‵ (u64 .own n (u ∷ [])) ∷ ‵ Own ∷ [])) (Post u)
   exits r zs n u g same e =
       qed W (Tok ∷ ‵ (finally R (x .name) zs) ∷ ‵ (u64 .own n (u ∷ [])) ∷ ‵ Own ∷ []) ∵
-      suffices ! _ (ends-at 𝓤 H A f.ended stayed (f.clauses 𝓤 H A mem run) W (((κ, (κ′, tt)), (q, (q′, tt)), tt, a, vals), tt) u n (tt, (zs, tt)) (tt, (same, tt))) $ says ! (e ∙ ap countAnswer (g .0), g .1) $
+      suffices ! _ (ends-at 𝓤 H A f.ended stayed (f.clauses 𝓤 H A mem run) W (((κ, (κ′, tt)), (q, (q′, tt)), tt, a, vals), tt) u n (tt, (zs, tt)) (tt, (same, tt))) $ says ! (e ∙ ap packed (g .0 .said), g .1) $
       frame ! $ nothing ! $ move ! (1 ∷ 0 ∷ []) $ fjoin ! $ move ! (2 ∷ 0 ∷ []) $ fjoin ! $ frame ! $ done !
 
   module _ (C : Calls 𝓤 H) (Λ : Loops 𝓤 H) (fm : FmC 𝓤 H (W .laws) C) (known-fill : Triple 𝓤 (C #container·reading·faults) (Fill 𝓤 H A mem run)) (known-number : Triple 𝓤 (C #boundary·answers·count-answer) (Number 𝓤 H A mem run)) where
@@ -144,7 +146,7 @@ module _ {M : Type 1} (𝓤 : URA M) (H : Heap 𝓤) (A : Atoms 𝓤) (W : Given
         use1 W (raw (Number 𝓤 H A mem run .pre (to-number r u))) (goes-number r u) $
         calls-at ! fm (Number 𝓤 H A mem run) known-number (to-number r u) (and-then ! (load ! (from ! (stop !)) (look ! 10 refl)) (no-more !)) (λ u′.
         use1 W (later (some (λ (n : ℕ). (‵ ftrue ⊛ ‵ (u64 .own n (u′ ∷ []))) ⊛ raw (ensured 𝓤 H A number.ended (number.clauses 𝓤 H A mem run) tt (r, tt) tt n)))) (id⊢ 𝓤 _) $ await ! tt $ pick ! (λ n.
-        split ! $ move ! (1 ∷ []) $ use1 W (raw (fact 𝓤 (n ≡ countAnswer r))) (number-said r n) $ heard ! (n ≡ countAnswer r) (λ e. split ! $ drop ! $ peeks ! u64 (Is u64) (shows 𝓤 H A u64) n (u′ ∷ []) (λ is′.
+        split ! $ move ! (1 ∷ []) $ use1 W (raw (fact 𝓤 (n ≡ packed (countSays r)))) (number-said r n) $ heard ! (n ≡ packed (countSays r)) (λ e. split ! $ drop ! $ peeks ! u64 (Is u64) (shows 𝓤 H A u64) n (u′ ∷ []) (λ is′.
         -- [the number; the tokens; the last row; true; true; what the input owns; _5; …; _4; …; _3; …; _2; …; _1; …; room for _0; …]
         land ! (from ! (stop !)) (init ! 16 refl (uint-lawful 𝓤 H A W w64 .typed n _ is′ .0)) $
         returns ! (look ! 16 refl) $ forget ! 6 refl $ forget ! 8 refl $ forget ! 10 refl $ forget ! 12 refl $ forget ! 14 refl $ forget ! 16 refl $

@@ -1,6 +1,6 @@
 -- The call's contract, through the answer's number.
-use mathlib.Core.Path.{_∙_}
-use Rattle.boundary.specs.Boundary.{listedAnswer}
+use mathlib.Core.Path.{ap, _∙_}
+use Rattle.boundary.specs.Boundary.{packed}
 use borrow.Author.Needs.{needs}
 use Rattle.gateway.proofs.teplovist_list_names.Statement.{statement}
 use Rattle.gateway.proofs.teplovist_list_names.Tie as tie
@@ -16,7 +16,7 @@ same-length c = search needs
 
 returns : tie.Need-returns
 returns c =
-    (c .listed-answer .ensures ∙ λ i. listedAnswer (c .before .before .before .list-names .ensures .0 i), c .before .before .before .list-names .ensures .1)
+    (c .listed-answer .ensures ∙ ap packed (c .before .before .before .list-names .ensures .0 .said), c .before .before .before .list-names .ensures .1)
 
 pub teplovist-list-names-spec : {M : Type 1} → statement M
 teplovist-list-names-spec =

@@ -23,7 +23,7 @@ returns c =
     let a = c .before .before .before .before .before .before .before .args in
     let kind = c .before .before .before .before .kind-of .ensures in
     let blank = c .before .before .before .make-blank .ensures in (
-      ended (c .ending-answer .ensures) (blank .0 ∙ λ i. made (a .image .now) (kind i) (a .blocks) .outcome),
+      ended (c .ending-answer .ensures) (blank .0 .case ∙ λ i. made (a .image .now) (kind i) (a .blocks) .outcome),
       blank .1 ∙ λ i. made (a .image .now) (kind i) (a .blocks) .image,
     )
 

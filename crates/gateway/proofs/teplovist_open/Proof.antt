@@ -1,7 +1,7 @@
 -- The call's contract, through the answer's number.
-use mathlib.Core.Path.{_∙_}
+use mathlib.Core.Path.{ap, _∙_}
 use denote.Ref.{now}
-use Rattle.boundary.specs.Boundary.{openedAnswer, descriptionLeft}
+use Rattle.boundary.specs.Boundary.{packed, descriptionLeft}
 use borrow.Author.Needs.{needs}
 use Rattle.gateway.proofs.teplovist_open.Statement.{statement}
 use Rattle.gateway.proofs.teplovist_open.Tie as tie
@@ -17,8 +17,8 @@ opened-answer-requires c κs = search needs
 
 returns : tie.Need-returns
 returns c = (
-  c .opened-answer .ensures ∙ λ i. openedAnswer (c .before .before .before .«open» .ensures i),
-  c .before .description-left .ensures ∙ λ i. descriptionLeft (c .before .before .before .«open» .ensures i) (now (c .before .before .before .before .before .args .numbers)),
+  c .opened-answer .ensures ∙ ap packed (c .before .before .before .«open» .ensures .said),
+  c .before .description-left .ensures ∙ λ i. descriptionLeft (c .before .before .before .«open» .ensures .case i) (now (c .before .before .before .before .before .args .numbers)),
 )
 
 pub teplovist-open-spec : {M : Type 1} → statement M

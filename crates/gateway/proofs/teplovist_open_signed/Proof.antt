@@ -1,5 +1,6 @@
 -- `gateway::teplovist_open_signed` meets its contract. Assumes nothing.
-use Rattle.boundary.specs.Boundary.{openedAnswer, descriptionLeft}
+use Rattle.layout.specs.Refusals.{openedSays}
+use Rattle.boundary.specs.Boundary.{packed, descriptionLeft}
 use Rattle.signatures.specs.Signatures.{openedSigned}
 use Rattle.layout.specs.declared.Opened.{Opened}
 use denote.Ref.{now}
@@ -21,7 +22,7 @@ opened-answer-requires : tie.Need-opened-answer-requires
 opened-answer-requires c κs = search needs
 
 returns : tie.Need-returns
-returns c = let opens = c .before .before .before .open-signed .ensures ∙ ap (openedSigned (now (c .before .before .before .before .before .before .before .before .args .image)) (now (c .before .before .before .before .before .before .before .before .args .key))) (c .before .before .before .before .signer-of .ensures) in (c .opened-answer .ensures ∙ ap openedAnswer opens, c .before .description-left .ensures ∙ ap (λ (o : Opened). descriptionLeft o (now (c .before .before .before .before .before .before .before .before .args .numbers))) opens)
+returns c = let opens = c .before .before .before .open-signed .ensures .case ∙ ap (openedSigned (now (c .before .before .before .before .before .before .before .before .args .image)) (now (c .before .before .before .before .before .before .before .before .args .key))) (c .before .before .before .before .signer-of .ensures) in (c .opened-answer .ensures ∙ ap (λ (o : Opened). packed (openedSays o)) opens, c .before .description-left .ensures ∙ ap (λ (o : Opened). descriptionLeft o (now (c .before .before .before .before .before .before .before .before .args .numbers))) opens)
 
 pub teplovist-open-signed-spec : {M : Type 1} → statement M
 teplovist-open-signed-spec =

@@ -14,7 +14,7 @@ same-length : tie.Need-same-length
 same-length c = search needs
 
 returns : tie.Need-returns
-returns c = (answered (c .outcome-answer .ensures) (c .before .before .before .read-committed .ensures .0), c .before .before .before .read-committed .ensures .1)
+returns c = (answered (c .outcome-answer .ensures) (c .before .before .before .read-committed .ensures .0 .case), c .before .before .before .read-committed .ensures .1)
 
 pub teplovist-read-committed-spec : {M : Type 1} → statement M
 teplovist-read-committed-spec =

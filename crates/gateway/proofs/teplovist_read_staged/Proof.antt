@@ -21,7 +21,7 @@ same-length c = search needs
 
 returns : tie.Need-returns
 returns c = (
-  answered (c .outcome-answer .ensures) (c .before .before .before .read-staged .ensures .0 ∙ λ i. calls.readStaged (now (c .before .before .before .before .before .before .before .before .before .args .image)) (c .before .before .before .before .before .session-of .ensures i) (c .before .before .before .before .before .before .before .before .before .args .partition) (c .before .before .before .before .before .before .before .before .before .args .place) (now (c .before .before .before .before .before .before .before .before .before .args .buffer)) .outcome),
+  answered (c .outcome-answer .ensures) (c .before .before .before .read-staged .ensures .0 .case ∙ λ i. calls.readStaged (now (c .before .before .before .before .before .before .before .before .before .args .image)) (c .before .before .before .before .before .session-of .ensures i) (c .before .before .before .before .before .before .before .before .before .args .partition) (c .before .before .before .before .before .before .before .before .before .args .place) (now (c .before .before .before .before .before .before .before .before .before .args .buffer)) .outcome),
   c .before .before .before .read-staged .ensures .1 ∙ λ i. calls.readStaged (now (c .before .before .before .before .before .before .before .before .before .args .image)) (c .before .before .before .before .before .session-of .ensures i) (c .before .before .before .before .before .before .before .before .before .args .partition) (c .before .before .before .before .before .before .before .before .before .args .place) (now (c .before .before .before .before .before .before .before .before .before .args .buffer)) .buffer,
 )
 

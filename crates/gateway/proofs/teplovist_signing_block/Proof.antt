@@ -1,8 +1,9 @@
 -- The call's contract, through the signer's numbers and the answer's. Assumes nothing.
-use mathlib.Core.Path.{_∙_}
+use mathlib.Core.Path.{ap, _∙_}
 use denote.Ref.{now}
 use Rattle.signing.specs.Calls.{signed, builtAs, blockLeft}
-use Rattle.boundary.specs.Signers.{builtAnswer}
+use Rattle.signing.specs.Calls.{builtSays}
+use Rattle.boundary.specs.Boundary.{packed}
 use borrow.Author.Needs.{needs}
 use Rattle.gateway.proofs.teplovist_signing_block.Statement.{statement}
 use Rattle.gateway.proofs.teplovist_signing_block.Tie as tie
@@ -21,7 +22,7 @@ returns c =
     let a = c .before .before .before .before .before .before .args in
     let of = c .before .before .before .signer-of .ensures in
     let called = c .before .signing-block .ensures in (
-      c .built-answer .ensures ∙ (λ i. builtAnswer (called .0 i)) ∙ λ i. builtAnswer (builtAs (signed (now (a .image)) (of i))),
+      c .built-answer .ensures ∙ ap packed (called .0 .said) ∙ λ i. packed (builtSays (builtAs (signed (now (a .image)) (of i)))),
       called .1 ∙ λ i. blockLeft (signed (now (a .image)) (of i)) (now (a .block)),
     )
 

@@ -1,8 +1,9 @@
 -- The call's contract, through the signer's numbers and the answer's. Assumes nothing.
-use mathlib.Core.Path.{_∙_}
+use mathlib.Core.Path.{ap, _∙_}
 use denote.Ref.{now}
 use Rattle.signing.specs.Calls.{signed, outcomeOf, digestLeft}
-use Rattle.boundary.specs.Boundary.{outcomeAnswer}
+use Rattle.layout.specs.Refusals.{outcomeSays}
+use Rattle.boundary.specs.Boundary.{packed}
 use borrow.Author.Needs.{needs}
 use Rattle.gateway.proofs.teplovist_signing_digest.Statement.{statement}
 use Rattle.gateway.proofs.teplovist_signing_digest.Tie as tie
@@ -21,7 +22,7 @@ returns c =
     let a = c .before .before .before .before .before .before .args in
     let of = c .before .before .before .signer-of .ensures in
     let called = c .before .signing-digest .ensures in (
-      c .outcome-answer .ensures ∙ (λ i. outcomeAnswer (called .0 i)) ∙ λ i. outcomeAnswer (outcomeOf (signed (now (a .image)) (of i))),
+      c .outcome-answer .ensures ∙ ap packed (called .0 .said) ∙ λ i. packed (outcomeSays (outcomeOf (signed (now (a .image)) (of i)))),
       called .1 ∙ λ i. digestLeft (signed (now (a .image)) (of i)) (now (a .digest)),
     )
 

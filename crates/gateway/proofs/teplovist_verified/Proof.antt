@@ -1,6 +1,6 @@
 -- The call's contract, through the answer's number.
-use mathlib.Core.Path.{_∙_}
-use Rattle.boundary.specs.Boundary.{verdictAnswer}
+use mathlib.Core.Path.{ap, _∙_}
+use Rattle.boundary.specs.Boundary.{packed}
 use borrow.Author.Needs.{needs}
 use Rattle.gateway.proofs.teplovist_verified.Statement.{statement}
 use Rattle.gateway.proofs.teplovist_verified.Tie as tie
@@ -12,7 +12,7 @@ verdict-answer-requires : tie.Need-verdict-answer-requires
 verdict-answer-requires c κs = search needs
 
 returns : tie.Need-returns
-returns c = c .verdict-answer .ensures ∙ λ i. verdictAnswer (c .before .verified .ensures i)
+returns c = c .verdict-answer .ensures ∙ ap packed (c .before .verified .ensures .said)
 
 pub teplovist-verified-spec : {M : Type 1} → statement M
 teplovist-verified-spec = tie.close (tie.spec verified-requires verdict-answer-requires returns)

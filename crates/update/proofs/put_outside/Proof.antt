@@ -4,7 +4,7 @@ use Rattle.number.specs.Frame.{Keeps}
 use Rattle.number.proofs.FrameLaws.{keeps-refl, keeps-trans, keeps-set}
 use Rattle.update.specs.Rules.{InPlace}
 use Rattle.update.proofs.StagedLaws.{OuterByte, view-kept}
-use Rattle.update.proofs.CodeLaws.{ends}
+use Rattle.update.proofs.CodeLaws.{outer-ends}
 use lib.Seq.{sets}
 use lib.ListN.{length, drop}
 use native.Mathlib.Omega.{arith}
@@ -32,12 +32,12 @@ shared-slice-read-value c = omega arith
 add-store-outside : tie.Need-add-store-outside Inv-loop μ-loop
 add-store-outside c =
     let s = c .before .before .before .before .before .before .before in
-    omega (arith, ends (s .pre .0) (s .args .x) (length (s .args .values .now)) (s .pre .1) (s .pre .2))
+    omega (arith, outer-ends (s .pre .0) (s .args .x) (length (s .args .values .now)) (s .pre .1) (s .pre .2))
 
 add-store-outside-2 : tie.Need-add-store-outside-2 Inv-loop μ-loop
 add-store-outside-2 c =
     let s = c .before .before .before .before .before .before .before in
-    omega (arith, ends (s .pre .0) (s .args .x) (length (s .args .values .now)) (s .pre .1) (s .pre .2))
+    omega (arith, outer-ends (s .pre .0) (s .args .x) (length (s .args .values .now)) (s .pre .1) (s .pre .2))
 
 store-outside-requires : tie.Need-store-outside-requires Inv-loop μ-loop
 unfolding InPlace
@@ -46,13 +46,13 @@ store-outside-requires c κs =
       view-kept (s .pre .0) (c .before .before .before .before .loop .image) (c .before .before .before .before .loop .inv .1),
       s .pre .2,
       (s .pre .1, (omega arith, omega arith)),
-      omega (arith, ends (s .pre .0) (s .args .x) (length (s .args .values .now)) (s .pre .1) (s .pre .2), c .before .before .before .before .loop .inv .1 .size),
+      omega (arith, outer-ends (s .pre .0) (s .args .x) (length (s .args .values .now)) (s .pre .1) (s .pre .2), c .before .before .before .before .loop .inv .1 .size),
     )
 
 add-i : tie.Need-add-i Inv-loop μ-loop
 add-i c =
     let s = c .before .before .before .before .before .before .before .before .before .before in
-    omega (arith, ends (s .pre .0) (s .args .x) (length (s .args .values .now)) (s .pre .1) (s .pre .2))
+    omega (arith, outer-ends (s .pre .0) (s .args .x) (length (s .args .values .now)) (s .pre .1) (s .pre .2))
 
 loop-less : tie.Need-loop-less Inv-loop μ-loop
 loop-less c = omega arith

@@ -1,5 +1,4 @@
 -- The refusal's number and block, packed.
-use Rattle.boundary.specs.Boundary.{refusedAnswer}
 use borrow.Author.Needs.{needs}
 use Rattle.boundary.proofs.answers.refused_answer.Statement.{statement}
 use Rattle.boundary.proofs.answers.refused_answer.Tie as tie
@@ -14,7 +13,6 @@ pack-requires : tie.Need-pack-requires
 pack-requires c κs = search needs
 
 returns : tie.Need-returns
-unfolding refusedAnswer
 returns c = cc
 
 pub refused-answer-spec : {M : Type 1} → statement M

@@ -1,4 +1,5 @@
 -- `signing_block` meets its contract. Assumes nothing.
+use Rattle.layout.proofs.AnswerLaws.{answers-and}
 use Rattle.signing.proofs.AnswerLaws.{judged-long, built-left, refused-left}
 use borrow.Author.Needs.{needs}
 use Rattle.container.proofs.blocks.signing_block.Statement.{statement}
@@ -23,12 +24,12 @@ returns : tie.Need-returns
 returns c =
     let s = c .before .before .before .before .before .before .before .before in
     let b = c .before .build in
-    built-left (s .args .image .now) (s .args .signer) _ (c .before .before .before .before .before .before .judge-signer .ensures) (s .args .block .now) _ _ _ (c .before .before .before .before .enum-told .given .1) (c .before .before .before .header-of .ensures) (b .ensures .0) (b .ensures .1)
+    answers-and (built-left (s .args .image .now) (s .args .signer) _ (c .before .before .before .before .before .before .judge-signer .ensures) (s .args .block .now) _ _ _ (c .before .before .before .before .enum-told .given .1) (c .before .before .before .header-of .ensures) (b .ensures .0) (b .ensures .1))
 
 returns-2 : tie.Need-returns-2
 returns-2 c =
     let s = c .before .before .before .before .before in
-    refused-left (s .args .image .now) (s .args .signer) _ (c .before .before .before .judge-signer .ensures) (s .args .block .now) _ (c .before .refusal .given .1)
+    answers-and (refused-left (s .args .image .now) (s .args .signer) _ (c .before .before .before .judge-signer .ensures) (s .args .block .now) _ (c .before .refusal .given .1))
 
 pub signing-block-spec : {M : Type 1} → statement M
 signing-block-spec =

@@ -1,4 +1,5 @@
 -- `signing_digest` meets its contract. Assumes nothing.
+use Rattle.layout.proofs.AnswerLaws.{answers-and}
 use Rattle.signing.proofs.AnswerLaws.{judged-long, digest-left, undigested-left}
 use borrow.Author.Needs.{needs}
 use Rattle.container.proofs.blocks.signing_digest.Statement.{statement}
@@ -16,7 +17,7 @@ enum-told-2 c = search needs
 returns : tie.Need-returns
 returns c =
     let s = c .before .before .before .before in
-    undigested-left (s .args .image .now) (s .args .signer) _ (c .before .before .judge-signer .ensures) (s .args .out .now) _ (c .enum-told2 .given .1)
+    answers-and (undigested-left (s .args .image .now) (s .args .signer) _ (c .before .before .judge-signer .ensures) (s .args .out .now) _ (c .enum-told2 .given .1))
 
 header-of-requires : tie.Need-header-of-requires
 header-of-requires c κs = judged-long _ _ _ (c .before .before .judge-signer .ensures) (c .enum-told .given .1)
@@ -27,7 +28,7 @@ block-digest-requires c κs = search needs
 returns-2 : tie.Need-returns-2
 returns-2 c =
     let s = c .before .before .before .before .before .before .before in
-    digest-left (s .args .image .now) (s .args .signer) _ (c .before .before .before .before .before .judge-signer .ensures) (s .args .out .now) _ _ (c .before .before .before .enum-told .given .1) (c .before .before .header-of .ensures) (c .block-digest .ensures)
+    answers-and (digest-left (s .args .image .now) (s .args .signer) _ (c .before .before .before .before .before .judge-signer .ensures) (s .args .out .now) _ _ (c .before .before .before .enum-told .given .1) (c .before .before .header-of .ensures) (c .block-digest .ensures))
 
 pub signing-digest-spec : {M : Type 1} → statement M
 signing-digest-spec =

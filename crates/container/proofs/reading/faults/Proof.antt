@@ -36,6 +36,8 @@ use denote.Triple.Table.{entered, cited}
 use denote.Triple.Clauses.{ensured, lasts}
 use denote.Triple.Walked.{says, Stays, gave-slice, stay-none-slice, walkOf, goes-gave-slice, goes-none-slice, Walks, ends-at, walked, walk-meets}
 use denote.Exit.{yes}
+use Rattle.steps.specs.Answers.{countSays}
+use Rattle.layout.specs.Refusals.{Answers}
 use Rattle.faults.specs.Faults.{faults, rowAfter, countFaults}
 use Rattle.faults.specs.declared.Fault.{Fault}
 use Rattle.steps.specs.declared.Count.{Count}
@@ -95,7 +97,7 @@ module _ {M : Type 1} (𝓤 : URA M) (H : Heap 𝓤) (A : Atoms 𝓤) (W : Given
   goes-fill = qed W (Tok ∷ ‵ (owns (ShrSlice (named 0) κ u8 ∷ MutSlice (named 1) κ′ R ∷ []) a vals) ∷ []) ∵ join ! $ frame ! $ done !
 
   abbrev Filled : Count → List Fault → Type 0
-  Filled r zs = (r ≡ countFaults (now s)) × (zs ≡ rowAfter (faults (now s)) (now x))
+  Filled r zs = Answers countSays r (countFaults (now s)) × (zs ≡ rowAfter (faults (now s)) (now x))
 
   exits : (r : Count) (zs : List Fault) (u : Val) → Filled r zs → length zs ≡ length (x .now)
       → ent 𝓤 (⋆ 𝓤 H A (Tok ∷ ‵ (finally R (x .name) zs) ∷ ‵ (O.the-row .own r (u ∷ [])) ∷ ‵ Own ∷ [])) (Post u)

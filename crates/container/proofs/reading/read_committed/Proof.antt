@@ -1,4 +1,5 @@
 -- `container::reading::read_committed` meets its contract. Assumes nothing.
+use Rattle.layout.proofs.AnswerLaws.{answers-and}
 use Rattle.steps.proofs.CallLaws.{places, committed-keeps, committed-unopened, committed-missing, committed-there}
 use Rattle.number.proofs.Tests.{failed, passed}
 use borrow.Author.Needs.{needs}
@@ -19,29 +20,29 @@ refusal-of-requires c κs = search needs
 
 returns : tie.Need-returns
 returns c =
-    committed-unopened _ _ (c .before .before .before .«open» .ensures) _ _ _ _ _ (c .before .enum-told .given .1) (c .refusal-of .ensures)
+    answers-and (committed-unopened _ _ (c .before .before .before .«open» .ensures .case) _ _ _ _ _ (c .before .enum-told .given .1) (c .refusal-of .ensures))
 
 has-partition-requires : tie.Need-has-partition-requires
 has-partition-requires c κs = search needs
 
 returns-2 : tie.Need-returns-2
 returns-2 c =
-    committed-missing _ _ (c .before .before .before .before .before .«open» .ensures) _ _ _ _ (c .before .before .before .answer .given .1) (failed (c .before .has-partition .ensures) (c .if1 .taken))
+    answers-and (committed-missing _ _ (c .before .before .before .before .before .«open» .ensures .case) _ _ _ _ (c .before .before .before .answer .given .1) (failed (c .before .has-partition .ensures) (c .if1 .taken)))
 
 committed-view-requires : tie.Need-committed-view-requires
 committed-view-requires c κs =
-    places _ _ (c .before .before .before .before .before .«open» .ensures) _ _ (c .before .before .before .answer .given .1) (passed (c .before .has-partition .ensures) (c .if1 .left))
+    places _ _ (c .before .before .before .before .before .«open» .ensures .case) _ _ (c .before .before .before .answer .given .1) (passed (c .before .has-partition .ensures) (c .if1 .left))
 
 read-view-requires : tie.Need-read-view-requires
 read-view-requires c κs =
-    committed-keeps _ _ (c .before .before .before .before .before .before .before .«open» .ensures) _ _ (c .before .before .before .before .before .answer .given .1) (passed (c .before .before .before .has-partition .ensures) (c .before .before .if1 .left)) _ (c .before .committed-view .ensures)
+    committed-keeps _ _ (c .before .before .before .before .before .before .before .«open» .ensures .case) _ _ (c .before .before .before .before .before .answer .given .1) (passed (c .before .before .before .has-partition .ensures) (c .before .before .if1 .left)) _ (c .before .committed-view .ensures)
 
 same-length : tie.Need-same-length
 same-length c = search needs
 
 returns-3 : tie.Need-returns-3
 returns-3 c =
-    committed-there _ _ (c .before .before .before .before .before .before .before .before .before .before .«open» .ensures) _ _ _ _ (c .before .before .before .before .before .before .before .before .answer .given .1) (passed (c .before .before .before .before .before .before .has-partition .ensures) (c .before .before .before .before .before .if1 .left)) _ (c .before .before .before .before .committed-view .ensures) _ _ (c .before .before .read-view .ensures)
+    answers-and (committed-there _ _ (c .before .before .before .before .before .before .before .before .before .before .«open» .ensures .case) _ _ _ _ (c .before .before .before .before .before .before .before .before .answer .given .1) (passed (c .before .before .before .before .before .before .has-partition .ensures) (c .before .before .before .before .before .if1 .left)) _ (c .before .before .before .before .committed-view .ensures) _ _ (c .before .before .read-view .ensures))
 
 pub read-committed-spec : {M : Type 1} → statement M
 read-committed-spec =

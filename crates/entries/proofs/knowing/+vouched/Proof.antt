@@ -21,7 +21,7 @@ use Rattle.entries.proofs.knowing.mark_of.Reads as mark-of-reads
 use Rattle.ivfc.proofs.gathering.level_of.Reads as level-of-reads
 use Rattle.ivfc.proofs.matching.block_matches.Reads as block-matches-reads
 use Rattle.ivfc.proofs.verifying.parent_of.Reads as parent-of-reads
-use Rattle.names.proofs.marks.is_marked.Reads as is-marked-reads
+use Rattle.number.proofs.marks.is_marked.Reads as is-marked-reads
 use Rattle.entries.proofs.knowing.+vouched.{statement}
 use Rattle.entries.proofs.knowing.+vouched.Tie.{close}
 

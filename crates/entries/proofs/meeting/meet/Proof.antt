@@ -3,11 +3,11 @@ use mathlib.Core.Path.{sym, ap, _∙_}
 use mathlib.Core.Bool.{Bool}
 use native.Mathlib.Omega.{arith}
 use Rattle.views.specs.Versions.{versionOf}
-use Rattle.names.specs.Marks.{marked}
+use Rattle.number.specs.Marks.{marked}
 use Rattle.names.specs.Entries.{admit}
 use Rattle.names.proofs.MeetLaws.{meets-invalid, meets-unverified, meets-at}
 use Rattle.names.proofs.EntryLaws.{admit-at, place-ends}
-use Rattle.names.proofs.MarkLaws.{left-pos}
+use Rattle.number.proofs.MarkLaws.{left-pos}
 use Rattle.entries.proofs.ReadLaws.{size-small}
 use borrow.Author.Needs.{needs}
 use Rattle.entries.proofs.meeting.meet.Statement.{statement}

@@ -8,7 +8,7 @@ enum-known-answer : tie.Need-enum-known-answer
 enum-known-answer c = search needs
 
 find-requires : tie.Need-find-requires
-find-requires c κs = may-find _ _ _ (c .before .before .before .before .pre) _ (c .before .answer .given .1)
+find-requires c κs = may-find _ _ (c .before .before .before .before .pre) _ (c .before .answer .given .1)
 
 enum-told : tie.Need-enum-told
 enum-told c = search needs

@@ -12,10 +12,10 @@ use Rattle.faults.proofs.searching.count_from.Statement.{statement}
 use Rattle.faults.proofs.searching.count_from.Tie as tie
 
 abbrev Inv-loop : tie.InvT-loop
-Inv-loop c image n₀ found₀ n found = (n + total c image found ≡ total c image found₀) × Placed c image (found .place) × (found .any ≡ false → total c image found ≡ 0)
+Inv-loop c marks n₀ found₀ n found = (n + total c marks found ≡ total c marks found₀) × Placed c (found .place) × (found .any ≡ false → total c marks found ≡ 0)
 
 abbrev μ-loop : tie.MeasureT-loop
-μ-loop c image n₀ found₀ n found = total c image found₀ - n
+μ-loop c marks n₀ found₀ n found = total c marks found₀ - n
 
 find-requires : tie.Need-find-requires Inv-loop μ-loop
 find-requires c κs = (c .before .pre .0, c .before .pre .1)
@@ -23,7 +23,7 @@ find-requires c κs = (c .before .pre .0, c .before .pre .1)
 loop-holds : tie.Need-loop-holds Inv-loop μ-loop
 loop-holds c =
     let a = c .before .before .args in
-    (omega arith, c .find .ensures .placed, total-no (a .c) (a .image .now) (a .place) (c .find .result) (c .find .ensures))
+    (omega arith, c .find .ensures .placed, total-no (a .c) (a .marks .now) (a .place) (c .find .result) (c .find .ensures))
 
 add-n : tie.Need-add-n Inv-loop μ-loop
 add-n c =
@@ -33,8 +33,8 @@ add-n c =
       fits = omega (
         arith,
         l .inv .0,
-        total-yes (s .args .c) (s .args .image .now) (l .found) (c .loop-test .taken),
-        finds-total (s .args .c) (s .args .image .now) (s .args .place) (c .before .before .find .result) (c .before .before .find .ensures),
+        total-yes (s .args .c) (s .args .marks .now) (l .found) (c .loop-test .taken),
+        finds-total (s .args .c) (s .args .marks .now) (s .args .place) (c .before .before .find .result) (c .before .before .find .ensures),
         s .pre .2,
       );
     }
@@ -46,7 +46,7 @@ loop-less : tie.Need-loop-less Inv-loop μ-loop
 loop-less c =
     let a = c .before .before .before .before .before .before .args in
     let l = c .before .before .before .loop in
-    omega (arith, l .inv .0, total-yes (a .c) (a .image .now) (l .found) (c .before .before .loop-test .taken))
+    omega (arith, l .inv .0, total-yes (a .c) (a .marks .now) (l .found) (c .before .before .loop-test .taken))
 
 loop-again : tie.Need-loop-again Inv-loop μ-loop
 loop-again c =
@@ -56,11 +56,11 @@ loop-again c =
       omega (
         arith,
         l .inv .0,
-        total-yes (a .c) (a .image .now) (l .found) (c .before .before .loop-test .taken),
-        finds-total (a .c) (a .image .now) (l .found .place) (c .find2 .result) f,
+        total-yes (a .c) (a .marks .now) (l .found) (c .before .before .loop-test .taken),
+        finds-total (a .c) (a .marks .now) (l .found .place) (c .find2 .result) f,
       ),
       f .placed,
-      total-no (a .c) (a .image .now) (l .found .place) (c .find2 .result) f,
+      total-no (a .c) (a .marks .now) (l .found .place) (c .find2 .result) f,
     )
 
 returns : tie.Need-returns Inv-loop μ-loop
@@ -71,7 +71,7 @@ returns c =
       arith,
       l .inv .0,
       l .inv .2 (c .loop-test .left),
-      finds-total (a .c) (a .image .now) (a .place) (c .before .before .find .result) (c .before .before .find .ensures),
+      finds-total (a .c) (a .marks .now) (a .place) (c .before .before .find .result) (c .before .before .find .ensures),
     )
 
 pub count-from-spec : {M : Type 1} → statement M

@@ -10,10 +10,10 @@ use Rattle.faults.proofs.searching.find.Statement.{statement}
 use Rattle.faults.proofs.searching.find.Tie as tie
 
 abbrev Inv-loop : tie.InvT-loop
-Inv-loop c image at₀ at = Placed c image at × (leftIn c image at₀ ≡ leftIn c image at)
+Inv-loop c marks at₀ at = Placed c at × (leftIn c marks at₀ ≡ leftIn c marks at)
 
 abbrev μ-loop : tie.MeasureT-loop
-μ-loop c image at₀ at = suc (4 * partitions c) - rank at
+μ-loop c marks at₀ at = suc (4 * partitions c) - rank at
 
 loop-holds : tie.Need-loop-holds Inv-loop μ-loop
 loop-holds c = (c .before .pre .1, refl)

@@ -1,12 +1,16 @@
--- `compare` meets its contract. The loop's invariant: of the first j digests, `before` agree before the first that does not, and `matching` agree.
+-- `compare` meets its contract. The loop's invariant: of the first j digests, `before` agree before the first that does not, `matching` agree, and
+-- `each` says which.
 -- The measure is how many are left. Assumes nothing.
-use Prim.Native.Nat.{ℕ, _+_, _-_, _*_, _≤_}
-use mathlib.Core.Path.{_≡_, refl, ap, _∙_}
+use Prim.Native.Nat.{ℕ, _+_, _-_, _*_, _≤_, _<_}
+use mathlib.Core.Path.{_≡_, refl, sym, ap, _∙_}
+use mathlib.Core.List.{List}
 use native.Mathlib.Omega.{arith}
-use lib.ListN.{take, drop}
+use native.Mathlib.Decide.{ℕ-discrete}
+use lib.ListN.{length, take, drop, getD, set, replicate, length-set}
+use lib.Seq.{getD-set-same, getD-set-other}
 use lib.Dec.{eqb}
 use mir.Val.{boolByte}
-use mathlib.Core.Bool.{_&&_}
+use mathlib.Core.Bool.{Bool, false, _&&_}
 use borrow.Author.Needs.{needs}
 use Rattle.ivfc.specs.Verified.{vouches, firstNot, countOf}
 use Rattle.ivfc.specs.Rows.{agree}
@@ -15,16 +19,31 @@ use Rattle.ivfc.proofs.RowLaws.{first-to, first-one-more}
 use Rattle.ivfc.proofs.matching.compare.Statement.{statement}
 use Rattle.ivfc.proofs.matching.compare.Tie as tie
 
+-- which of the first n are accepted, of eight
+abbrev Verdicts : (ℕ → Bool) → ℕ → List Bool → Type 0
+Verdicts P n each = (length each ≡ 8) × ((k : ℕ) → k < n → getD each k false ≡ P k)
+
+no-verdicts : (P : ℕ → Bool) → Verdicts P 0 (replicate 8 false)
+no-verdicts P = (refl, λ k h. absurd (omega arith))
+
+-- one more
+one-verdict : (P : ℕ → Bool) (n : ℕ) (each : List Bool) (t : Bool) → n < 8 → Verdicts P n each → t ≡ P n → Verdicts P (n + 1) (set each n t)
+one-verdict P n each t h v e = (length-set each n t ∙ v .0, λ k l. go k l (ℕ-discrete k n))
+  where
+    go : (k : ℕ) → k < n + 1 → Dec (k ≡ n) → getD (set each n t) k false ≡ P k
+    go k l (yes s) = ap (λ (x : ℕ). getD (set each n t) x false) s ∙ getD-set-same each n t false (omega (arith, v .0)) ∙ e ∙ ap P (sym s)
+    go k l (no s) = getD-set-other each n k t false s ∙ v .1 k (omega arith)
+
 abbrev Inv-loop : tie.InvT-loop
-Inv-loop digests entries n before₀ matching₀ j₀ before matching j =
-    (j ≤ n) × (before ≡ firstNot (agree digests entries) 0 j) × (matching ≡ countOf (agree digests entries) j)
+Inv-loop digests entries n before₀ matching₀ each₀ j₀ before matching each j =
+    (j ≤ n) × (before ≡ firstNot (agree digests entries) 0 j) × (matching ≡ countOf (agree digests entries) j) × Verdicts (agree digests entries) j each
 
 abbrev μ-loop : tie.MeasureT-loop
-μ-loop digests entries n before₀ matching₀ j₀ before matching j = n - j
+μ-loop digests entries n before₀ matching₀ each₀ j₀ before matching each j = n - j
 
 loop-holds : tie.Need-loop-holds Inv-loop μ-loop
 unfolding firstNot countOf
-loop-holds c = (omega arith, refl, refl)
+loop-holds c = (omega arith, refl, refl, no-verdicts _)
 
 mul-at : tie.Need-mul-at Inv-loop μ-loop
 mul-at c = search needs
@@ -90,6 +109,9 @@ add-matching c =
     let a = c .before .before .before .before .before .before .before .args in
     record { fits = omega (arith, matching-is c, count-le (agree (a .digests .now) (a .entries .now)) (c .before .before .before .before .loop .j + 1)) }
 
+array-write-each : tie.Need-array-write-each Inv-loop μ-loop
+array-write-each c = omega (arith, c .before .before .before .before .before .before .before .pre .2)
+
 add-j : tie.Need-add-j Inv-loop μ-loop
 add-j c = search needs
 
@@ -97,14 +119,19 @@ loop-less : tie.Need-loop-less Inv-loop μ-loop
 loop-less c = search needs
 
 loop-again : tie.Need-loop-again Inv-loop μ-loop
-loop-again c = (omega arith, before-is c, matching-is c)
+loop-again c =
+    let l = c .before .before .before .before .loop in
+    let s = c .before .before .before .before .before .before .before in
+    (omega arith, before-is c, matching-is c, one-verdict _ (l .j) (l .each) _ (omega (arith, s .pre .2)) (l .inv .3) (said c))
 
 returns : tie.Need-returns Inv-loop μ-loop
 returns c =
     let l = c .before .loop in
     let a = c .before .before .before .before .args in
-    let e : l .j ≡ a .n = omega arith in
-    (refl, l .inv .1 ∙ ap (firstNot (agree (a .digests .now) (a .entries .now)) 0) e, l .inv .2 ∙ ap (countOf (agree (a .digests .now) (a .entries .now))) e)
+    let e : l .j ≡ a .n = omega arith in (
+      (refl, l .inv .1 ∙ ap (firstNot (agree (a .digests .now) (a .entries .now)) 0) e, l .inv .2 ∙ ap (countOf (agree (a .digests .now) (a .entries .now))) e),
+      (l .inv .3 .0, λ k h. l .inv .3 .1 k (omega arith)),
+    )
 
 pub compare-spec : {M : Type 1} → statement M
 compare-spec =
@@ -126,6 +153,7 @@ compare-spec =
     add-before
     cast-matching
     add-matching
+    array-write-each
     add-j
     loop-less
     loop-again

@@ -12,7 +12,7 @@ use Rattle.number.specs.Bytes.{bytes}
 use Rattle.ivfc.specs.Rows.{digests}
 use Rattle.ivfc.specs.Views.{levelOf, contentOf}
 use Rattle.ivfc.proofs.ViewLaws.{level-small}
-use Rattle.ivfc.proofs.DigestLaws.{row-fits, row-length, row-entries, row-before, row-matching, entries-above}
+use Rattle.ivfc.proofs.DigestLaws.{row-fits, row-length, row-entries, agrees, row-before, row-matching, entries-above}
 use Rattle.ivfc.proofs.matching.compare_from.Statement.{statement}
 use Rattle.ivfc.proofs.matching.compare_from.Tie as tie
 
@@ -96,8 +96,11 @@ slice-aggregate-compare-2 c = sym (part-long c)
 
 compare-requires : tie.Need-compare-requires
 compare-requires c κs =
-    let n = c .before .before .before .before .before .before .digests-from .result .count in
-    (hashes-long (c .before .before .before .before .before .before) ∙ mul-comm n 32, part-long c ∙ mul-comm n 32)
+    let n = c .before .before .before .before .before .before .digests-from .result .count in (
+      hashes-long (c .before .before .before .before .before .before) ∙ mul-comm n 32,
+      part-long c ∙ mul-comm n 32,
+      c .before .before .before .before .before .before .digests-from .ensures .0 .1,
+    )
 
 returns : tie.Need-returns
 returns c =
@@ -106,13 +109,18 @@ returns c =
     let levels : ℕ → Level = levelOf (s .args .view) in
     let content : ℕ → ℕ → ℕ = contentOf (s .args .view) (s .args .image .now) in
     let (some, most, ends, long) = d .ensures .0 in
-    let (n, before, matching) = c .compare .ensures in
+    let (n, before, matching) = c .compare .ensures .0 in
     let hashes : take (d .result .count * 32) (d .result .bytes) ≡ digests (levels (s .args .i)) (content (s .args .i)) (s .args .b) (d .result .count) =
     ap (λ (m : ℕ). take m (d .result .bytes)) (mul-comm (d .result .count) 32) ∙ d .ensures .1 in (
       (
         omega arith,
         omega arith,
         row-before levels content (s .args .i) (s .args .b) (d .result .count) _ _ (s .pre .1) hashes (part-is (c .before)) _ _ n before,
+        omega (arith, n, most),
+        c .compare .ensures .1 .0,
+        λ j k.
+            c .compare .ensures .1 .1 j (omega (arith, n, k))
+            ∙ agrees levels content (s .args .i) (s .args .b) (d .result .count) _ _ (s .pre .1) hashes (part-is (c .before)) j (omega (arith, n, k)),
       ),
       row-matching levels content (s .args .i) (s .args .b) (d .result .count) _ _ (s .pre .1) hashes (part-is (c .before)) _ _ n matching,
     )

@@ -1,43 +1,47 @@
-use Rattle.number.specs.Fields.{le64}
+-- `field8` meets its contract. Assumes nothing.
+use Prim.Native.Nat.{_+_}
+use mathlib.Core.Path.{_∙_}
 use native.Mathlib.Omega.{arith}
+use Rattle.number.proofs.FieldLaws.{eight-alone}
 use borrow.Author.Needs.{needs}
 use Rattle.number.proofs.fields.field8.Statement.{statement}
 use Rattle.number.proofs.fields.field8.Tie as tie
 
-field4-requires : tie.Need-field4-requires
-field4-requires c κs = search needs
+add-end : tie.Need-add-end
+add-end c = search needs
 
-cast-low : tie.Need-cast-low
-cast-low c = search needs
+sub-eight-bytes : tie.Need-sub-eight-bytes
+sub-eight-bytes c = search needs
 
-add-field4 : tie.Need-add-field4
-add-field4 c = search needs
+part-eight-bytes-start : tie.Need-part-eight-bytes-start
+part-eight-bytes-start c = search needs
 
-field4-requires-2 : tie.Need-field4-requires-2
-field4-requires-2 c κs = search needs
+part-eight-bytes-end : tie.Need-part-eight-bytes-end
+part-eight-bytes-end c = search needs
 
-cast-high : tie.Need-cast-high
-cast-high c = search needs
+eight-bytes-requires : tie.Need-eight-bytes-requires
+eight-bytes-requires c κs = search needs
 
-mul-result : tie.Need-mul-result
-mul-result c = search needs
-
-add-result : tie.Need-add-result
-add-result c = search needs
+eight-bytes-requires-2 : tie.Need-eight-bytes-requires-2
+eight-bytes-requires-2 c κs = search needs
 
 returns : tie.Need-returns
-unfolding le64
-returns c = omega arith
+returns c =
+    let a = c .before .before .before .before .args in
+    c .eight-bytes .ensures ∙ eight-alone (a .s .now) (a .at) (a .at + 8) (omega arith)
+
+returns-2 : tie.Need-returns-2
+returns-2 c = search needs
 
 pub field8-spec : {M : Type 1} → statement M
 field8-spec =
     tie.close
     (tie.spec
-    field4-requires
-    cast-low
-    add-field4
-    field4-requires-2
-    cast-high
-    mul-result
-    add-result
-    returns)
+    add-end
+    sub-eight-bytes
+    part-eight-bytes-start
+    part-eight-bytes-end
+    eight-bytes-requires
+    eight-bytes-requires-2
+    returns
+    returns-2)

@@ -1,4 +1,5 @@
 -- `save::calls::find_file` meets its contract. Assumes nothing.
+use Rattle.layout.proofs.AnswerLaws.{answers}
 use Rattle.number.proofs.Tests.{failed, passed}
 use Rattle.steps.proofs.CallLaws.{places, committed-keeps}
 use Rattle.save.proofs.CallLaws.{holds-there, find-unopened, find-other, find-there}
@@ -19,13 +20,15 @@ refusal-of-requires : tie.Need-refusal-of-requires
 refusal-of-requires c κs = search needs
 
 returns : tie.Need-returns
-returns c = find-unopened (c .before .before .before .before .before .args .image .now) _ (c .before .before .before .«open» .ensures) (c .before .before .before .before .before .args .folder) (c .before .before .before .before .before .args .name .now) _ _ (c .before .enum-told .given .1) (c .refusal-of .ensures)
+returns c =
+    answers (find-unopened (c .before .before .before .before .before .args .image .now) _ (c .before .before .before .«open» .ensures) (c .before .before .before .before .before .args .folder) (c .before .before .before .before .before .args .name .now) _ _ (c .before .enum-told .given .1) (c .refusal-of .ensures))
 
 holds-save-requires : tie.Need-holds-save-requires
 holds-save-requires c κs = search needs
 
 returns-2 : tie.Need-returns-2
-returns-2 c = find-other (c .before .before .before .before .before .before .before .args .image .now) _ (c .before .before .before .before .before .«open» .ensures) _ (c .before .before .before .answer .given .1) (c .before .before .before .before .before .before .before .args .folder) (c .before .before .before .before .before .before .before .args .name .now) (failed (c .before .holds-save .ensures) (c .if1 .taken))
+returns-2 c =
+    answers (find-other (c .before .before .before .before .before .before .before .args .image .now) _ (c .before .before .before .before .before .«open» .ensures) _ (c .before .before .before .answer .given .1) (c .before .before .before .before .before .before .before .args .folder) (c .before .before .before .before .before .before .before .args .name .now) (failed (c .before .holds-save .ensures) (c .if1 .taken)))
 
 committed-view-requires : tie.Need-committed-view-requires
 committed-view-requires c κs =
@@ -37,7 +40,7 @@ find-in-requires c κs =
 
 returns-3 : tie.Need-returns-3
 returns-3 c =
-    find-there (c .before .before .before .before .before .before .before .before .before .before .args .image .now) _ (c .before .before .before .before .before .before .before .before .«open» .ensures) _ (c .before .before .before .before .before .before .answer .given .1) (c .before .before .before .before .before .before .before .before .before .before .args .folder) (c .before .before .before .before .before .before .before .before .before .before .args .name .now) (passed (c .before .before .before .before .holds-save .ensures) (c .before .before .before .if1 .left)) _ (c .before .before .committed-view .ensures) _ (c .find-in .ensures)
+    answers (find-there (c .before .before .before .before .before .before .before .before .before .before .args .image .now) _ (c .before .before .before .before .before .before .before .before .«open» .ensures) _ (c .before .before .before .before .before .before .answer .given .1) (c .before .before .before .before .before .before .before .before .before .before .args .folder) (c .before .before .before .before .before .before .before .before .before .before .args .name .now) (passed (c .before .before .before .before .holds-save .ensures) (c .before .before .before .if1 .left)) _ (c .before .before .committed-view .ensures) _ (c .find-in .ensures))
 
 pub find-file-spec : {M : Type 1} → statement M
 find-file-spec =

@@ -1,4 +1,5 @@
 -- `save::calls::list_names` meets its contract. Assumes nothing.
+use Rattle.layout.proofs.AnswerLaws.{answers-and}
 use Rattle.number.proofs.Tests.{failed, passed}
 use Rattle.steps.proofs.CallLaws.{places, committed-keeps}
 use Rattle.save.proofs.CallLaws.{holds-there, holds-internal, list-unopened, list-other, list-there}
@@ -19,13 +20,13 @@ refusal-of-requires : tie.Need-refusal-of-requires
 refusal-of-requires c κs = search needs
 
 returns : tie.Need-returns
-returns c = list-unopened (c .before .before .before .before .before .before .args .image .now) _ (c .before .before .before .«open» .ensures) (c .before .before .before .before .before .before .args .row .now) _ _ (c .before .enum-told .given .1) (c .refusal-of .ensures)
+returns c = answers-and (list-unopened (c .before .before .before .before .before .before .args .image .now) _ (c .before .before .before .«open» .ensures) (c .before .before .before .before .before .before .args .row .now) _ _ (c .before .enum-told .given .1) (c .refusal-of .ensures))
 
 holds-save-requires : tie.Need-holds-save-requires
 holds-save-requires c κs = search needs
 
 returns-2 : tie.Need-returns-2
-returns-2 c = list-other (c .before .before .before .before .before .before .before .before .args .image .now) _ (c .before .before .before .before .before .«open» .ensures) _ (c .before .before .before .answer .given .1) (c .before .before .before .before .before .before .before .before .args .row .now) (failed (c .before .holds-save .ensures) (c .if1 .taken))
+returns-2 c = answers-and (list-other (c .before .before .before .before .before .before .before .before .args .image .now) _ (c .before .before .before .before .before .«open» .ensures) _ (c .before .before .before .answer .given .1) (c .before .before .before .before .before .before .before .before .args .row .now) (failed (c .before .holds-save .ensures) (c .if1 .taken)))
 
 committed-view-requires : tie.Need-committed-view-requires
 committed-view-requires c κs =
@@ -42,7 +43,7 @@ same-length c = search needs
 
 returns-3 : tie.Need-returns-3
 returns-3 c =
-    list-there (c .before .before .before .before .before .before .before .before .before .before .before .before .before .args .image .now) _ (c .before .before .before .before .before .before .before .before .before .before .«open» .ensures) _ (c .before .before .before .before .before .before .before .before .answer .given .1) (c .before .before .before .before .before .before .before .before .before .before .before .before .before .args .row .now) (passed (c .before .before .before .before .before .before .holds-save .ensures) (c .before .before .before .before .before .if1 .left)) _ (c .before .before .before .before .committed-view .ensures) _ _ (c .before .before .list-view .ensures)
+    answers-and (list-there (c .before .before .before .before .before .before .before .before .before .before .before .before .before .args .image .now) _ (c .before .before .before .before .before .before .before .before .before .before .«open» .ensures) _ (c .before .before .before .before .before .before .before .before .answer .given .1) (c .before .before .before .before .before .before .before .before .before .before .before .before .before .args .row .now) (passed (c .before .before .before .before .before .before .holds-save .ensures) (c .before .before .before .before .before .if1 .left)) _ (c .before .before .before .before .committed-view .ensures) _ _ (c .before .before .list-view .ensures))
 
 pub list-names-spec : {M : Type 1} → statement M
 list-names-spec =

@@ -7,6 +7,7 @@ use denote.Ref.{now}
 use Prim.Native.Nat.{_+_}
 use lib.ListN.{length}
 use Rattle.sha256.specs.Running.{longest}
+use Rattle.layout.proofs.AnswerLaws.{answers}
 use Rattle.signing.proofs.digests.advance.Statement.{statement}
 use Rattle.signing.proofs.digests.advance.Tie as tie
 
@@ -20,13 +21,13 @@ returns : tie.Need-returns
 returns c =
     let a = c .before .before .before .before .args in
     let e = leb-true (a .running .total + length (now (a .piece))) longest (sym (c .before .before .fits2 .ensures) ∙ c .before .if1 .taken) in
-    record { accepted = λ _. (refl, c .update .ensures .1 .1); refused = λ l. absurd (omega (arith, e, l)) }
+    record { accepted = λ _. (answers refl, c .update .ensures .1 .1); refused = λ l. absurd (omega (arith, e, l)) }
 
 returns-2 : tie.Need-returns-2
 returns-2 c =
     let a = c .before .before .before .args in
     let e = leb-false (a .running .total + length (now (a .piece))) longest (sym (c .before .fits2 .ensures) ∙ c .if1 .left) in
-    record { accepted = λ l. absurd (omega (arith, e, l)); refused = λ _. (refl, refl) }
+    record { accepted = λ l. absurd (omega (arith, e, l)); refused = λ _. (answers refl, refl) }
 
 pub advance-spec : {M : Type 1} → statement M
 advance-spec = tie.close (tie.spec fits-requires update-requires returns returns-2)
