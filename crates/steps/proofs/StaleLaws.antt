@@ -161,6 +161,12 @@ module _ (c : Container) (q i : ℕ) (table : List ℕ) where
   unfolding selectorFlipped
   length-flipped = length-set table (selectorPlace (slotOf c q)) (1 - partitionOf c q .difi .selector)
 
+-- where a partition's selector and master hash stand, by the slot and the fields as they were read
+pub places-read : (c : Container) (q start end : ℕ) → HoldsMarks c q start end → (slot : Slot) → slot ≡ slotOf c q → (p : Partition) → p ≡ partitionOf c q
+    → (start ≤ selectorPlace slot) × (selectorPlace slot < slot .descriptor .offset + p .difi .master .offset)
+    × (slot .descriptor .offset + p .difi .master .offset + p .difi .master .size ≤ end) × (p .difi .selector ≤ 1)
+places-read c q start end h slot s p e = rw (s, e) (h .selector, h .behind, h .master, h .bit)
+
 module _ (c : Container) (q start end : ℕ) (h : HoldsMarks c q start end) (t u : List ℕ) (inside : end ≤ length t) where
   own-plain : (i : ℕ) → i ≢ selectorPlace (slotOf c q)
       → (i < slotOf c q .descriptor .offset + partitionOf c q .difi .master .offset ⊎ slotOf c q .descriptor .offset + partitionOf c q .difi .master .offset + partitionOf c q .difi .master .size ≤ i)

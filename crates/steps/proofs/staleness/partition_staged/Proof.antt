@@ -1,9 +1,6 @@
 -- `partition_staged` meets its contract. Assumes nothing.
-use mathlib.Core.Path.{ap}
 use native.Mathlib.Omega.{arith}
-use Rattle.layout.specs.declared.Slot.{Slot}
-use Rattle.layout.specs.declared.Partition.{Partition}
-use Rattle.steps.proofs.StaleLaws.{runs-staged}
+use Rattle.steps.proofs.StaleLaws.{places-read, runs-staged}
 use borrow.Author.Needs.{needs}
 use Rattle.steps.proofs.staleness.partition_staged.Statement.{statement}
 use Rattle.steps.proofs.staleness.partition_staged.Tie as tie
@@ -15,81 +12,18 @@ partition-of-requires : tie.Need-partition-of-requires
 partition-of-requires c κs = search needs
 
 add-selector : tie.Need-add-selector
-add-selector c =
-    omega (
-      arith,
-      ap (λ (s : Slot). s .descriptor .offset) (c .before .before .slot-of .ensures),
-      ap (λ (p : Partition). p .difi .master .offset) (c .before .partition-of .ensures),
-      ap (λ (p : Partition). p .difi .master .size) (c .before .partition-of .ensures),
-      ap (λ (p : Partition). p .difi .selector) (c .before .partition-of .ensures),
-      c .before .before .before .before .before .pre .0 .selector,
-      c .before .before .before .before .before .pre .0 .behind,
-      c .before .before .before .before .before .pre .0 .master,
-      c .before .before .before .before .before .pre .0 .bit,
-      c .before .before .before .before .before .pre .1,
-      c .before .before .before .before .before .fits .end,
-    )
+add-selector c = omega (arith, places-read _ _ _ _ (c .before .before .before .before .before .pre .0) _ (c .before .before .slot-of .ensures) _ (c .before .partition-of .ensures), c .before .before .before .before .before .pre .1, c .before .before .before .before .before .fits .end)
 
 add-master : tie.Need-add-master
-add-master c =
-    omega (
-      arith,
-      ap (λ (s : Slot). s .descriptor .offset) (c .before .before .before .slot-of .ensures),
-      ap (λ (p : Partition). p .difi .master .offset) (c .before .before .partition-of .ensures),
-      ap (λ (p : Partition). p .difi .master .size) (c .before .before .partition-of .ensures),
-      ap (λ (p : Partition). p .difi .selector) (c .before .before .partition-of .ensures),
-      c .before .before .before .before .before .before .pre .0 .selector,
-      c .before .before .before .before .before .before .pre .0 .behind,
-      c .before .before .before .before .before .before .pre .0 .master,
-      c .before .before .before .before .before .before .pre .0 .bit,
-      c .before .before .before .before .before .before .pre .1,
-      c .before .before .before .before .before .before .fits .end,
-    )
+add-master c = omega (arith, places-read _ _ _ _ (c .before .before .before .before .before .before .pre .0) _ (c .before .before .before .slot-of .ensures) _ (c .before .before .partition-of .ensures), c .before .before .before .before .before .before .pre .1, c .before .before .before .before .before .before .fits .end)
 
 add-end-of-master : tie.Need-add-end-of-master
-add-end-of-master c =
-    omega (
-      arith,
-      ap (λ (s : Slot). s .descriptor .offset) (c .before .before .before .before .slot-of .ensures),
-      ap (λ (p : Partition). p .difi .master .offset) (c .before .before .before .partition-of .ensures),
-      ap (λ (p : Partition). p .difi .master .size) (c .before .before .before .partition-of .ensures),
-      ap (λ (p : Partition). p .difi .selector) (c .before .before .before .partition-of .ensures),
-      c .before .before .before .before .before .before .before .pre .0 .selector,
-      c .before .before .before .before .before .before .before .pre .0 .behind,
-      c .before .before .before .before .before .before .before .pre .0 .master,
-      c .before .before .before .before .before .before .before .pre .0 .bit,
-      c .before .before .before .before .before .before .before .pre .1,
-      c .before .before .before .before .before .before .before .fits .end,
-    )
+add-end-of-master c = omega (arith, places-read _ _ _ _ (c .before .before .before .before .before .before .before .pre .0) _ (c .before .before .before .before .slot-of .ensures) _ (c .before .before .before .partition-of .ensures), c .before .before .before .before .before .before .before .pre .1, c .before .before .before .before .before .before .before .fits .end)
 
 run-same-requires : tie.Need-run-same-requires
 run-same-requires c κs = (
-  omega (
-    arith,
-    ap (λ (s : Slot). s .descriptor .offset) (c .before .before .before .before .slot-of .ensures),
-    ap (λ (p : Partition). p .difi .master .offset) (c .before .before .before .partition-of .ensures),
-    ap (λ (p : Partition). p .difi .master .size) (c .before .before .before .partition-of .ensures),
-    ap (λ (p : Partition). p .difi .selector) (c .before .before .before .partition-of .ensures),
-    c .before .before .before .before .before .before .before .pre .0 .selector,
-    c .before .before .before .before .before .before .before .pre .0 .behind,
-    c .before .before .before .before .before .before .before .pre .0 .master,
-    c .before .before .before .before .before .before .before .pre .0 .bit,
-    c .before .before .before .before .before .before .before .pre .1,
-    c .before .before .before .before .before .before .before .fits .end,
-  ),
-  omega (
-    arith,
-    ap (λ (s : Slot). s .descriptor .offset) (c .before .before .before .before .slot-of .ensures),
-    ap (λ (p : Partition). p .difi .master .offset) (c .before .before .before .partition-of .ensures),
-    ap (λ (p : Partition). p .difi .master .size) (c .before .before .before .partition-of .ensures),
-    ap (λ (p : Partition). p .difi .selector) (c .before .before .before .partition-of .ensures),
-    c .before .before .before .before .before .before .before .pre .0 .selector,
-    c .before .before .before .before .before .before .before .pre .0 .behind,
-    c .before .before .before .before .before .before .before .pre .0 .master,
-    c .before .before .before .before .before .before .before .pre .0 .bit,
-    c .before .before .before .before .before .before .before .pre .1,
-    c .before .before .before .before .before .before .before .fits .end,
-  ),
+  omega (arith, places-read _ _ _ _ (c .before .before .before .before .before .before .before .pre .0) _ (c .before .before .before .before .slot-of .ensures) _ (c .before .before .before .partition-of .ensures), c .before .before .before .before .before .before .before .pre .1, c .before .before .before .before .before .before .before .fits .end),
+  omega (arith, places-read _ _ _ _ (c .before .before .before .before .before .before .before .pre .0) _ (c .before .before .before .before .slot-of .ensures) _ (c .before .before .before .partition-of .ensures), c .before .before .before .before .before .before .before .pre .1, c .before .before .before .before .before .before .before .fits .end),
   c .before .before .before .before .before .before .before .pre .2,
 )
 
@@ -97,96 +31,22 @@ byte-requires : tie.Need-byte-requires
 byte-requires c κs = search needs
 
 sub-result : tie.Need-sub-result
-sub-result c =
-    omega (
-      arith,
-      ap (λ (s : Slot). s .descriptor .offset) (c .before .before .before .before .before .before .before .slot-of .ensures),
-      ap (λ (p : Partition). p .difi .master .offset) (c .before .before .before .before .before .before .partition-of .ensures),
-      ap (λ (p : Partition). p .difi .master .size) (c .before .before .before .before .before .before .partition-of .ensures),
-      ap (λ (p : Partition). p .difi .selector) (c .before .before .before .before .before .before .partition-of .ensures),
-      c .before .before .before .before .before .before .before .before .before .before .pre .0 .selector,
-      c .before .before .before .before .before .before .before .before .before .before .pre .0 .behind,
-      c .before .before .before .before .before .before .before .before .before .before .pre .0 .master,
-      c .before .before .before .before .before .before .before .before .before .before .pre .0 .bit,
-      c .before .before .before .before .before .before .before .before .before .before .pre .1,
-      c .before .before .before .before .before .before .before .before .before .before .fits .end,
-    )
+sub-result c = omega (arith, places-read _ _ _ _ (c .before .before .before .before .before .before .before .before .before .before .pre .0) _ (c .before .before .before .before .before .before .before .slot-of .ensures) _ (c .before .before .before .before .before .before .partition-of .ensures), c .before .before .before .before .before .before .before .before .before .before .pre .1, c .before .before .before .before .before .before .before .before .before .before .fits .end)
 
 add-run-same : tie.Need-add-run-same
-add-run-same c =
-    omega (
-      arith,
-      ap (λ (s : Slot). s .descriptor .offset) (c .before .before .before .before .before .before .before .slot-of .ensures),
-      ap (λ (p : Partition). p .difi .master .offset) (c .before .before .before .before .before .before .partition-of .ensures),
-      ap (λ (p : Partition). p .difi .master .size) (c .before .before .before .before .before .before .partition-of .ensures),
-      ap (λ (p : Partition). p .difi .selector) (c .before .before .before .before .before .before .partition-of .ensures),
-      c .before .before .before .before .before .before .before .before .before .before .pre .0 .selector,
-      c .before .before .before .before .before .before .before .before .before .before .pre .0 .behind,
-      c .before .before .before .before .before .before .before .before .before .before .pre .0 .master,
-      c .before .before .before .before .before .before .before .before .before .before .pre .0 .bit,
-      c .before .before .before .before .before .before .before .before .before .before .pre .1,
-      c .before .before .before .before .before .before .before .before .before .before .fits .end,
-    )
+add-run-same c = omega (arith, places-read _ _ _ _ (c .before .before .before .before .before .before .before .before .before .before .pre .0) _ (c .before .before .before .before .before .before .before .slot-of .ensures) _ (c .before .before .before .before .before .before .partition-of .ensures), c .before .before .before .before .before .before .before .before .before .before .pre .1, c .before .before .before .before .before .before .before .before .before .before .fits .end)
 
 run-same-requires-2 : tie.Need-run-same-requires-2
 run-same-requires-2 c κs = (
-  omega (
-    arith,
-    ap (λ (s : Slot). s .descriptor .offset) (c .before .before .before .before .before .before .before .slot-of .ensures),
-    ap (λ (p : Partition). p .difi .master .offset) (c .before .before .before .before .before .before .partition-of .ensures),
-    ap (λ (p : Partition). p .difi .master .size) (c .before .before .before .before .before .before .partition-of .ensures),
-    ap (λ (p : Partition). p .difi .selector) (c .before .before .before .before .before .before .partition-of .ensures),
-    c .before .before .before .before .before .before .before .before .before .before .pre .0 .selector,
-    c .before .before .before .before .before .before .before .before .before .before .pre .0 .behind,
-    c .before .before .before .before .before .before .before .before .before .before .pre .0 .master,
-    c .before .before .before .before .before .before .before .before .before .before .pre .0 .bit,
-    c .before .before .before .before .before .before .before .before .before .before .pre .1,
-    c .before .before .before .before .before .before .before .before .before .before .fits .end,
-  ),
-  omega (
-    arith,
-    ap (λ (s : Slot). s .descriptor .offset) (c .before .before .before .before .before .before .before .slot-of .ensures),
-    ap (λ (p : Partition). p .difi .master .offset) (c .before .before .before .before .before .before .partition-of .ensures),
-    ap (λ (p : Partition). p .difi .master .size) (c .before .before .before .before .before .before .partition-of .ensures),
-    ap (λ (p : Partition). p .difi .selector) (c .before .before .before .before .before .before .partition-of .ensures),
-    c .before .before .before .before .before .before .before .before .before .before .pre .0 .selector,
-    c .before .before .before .before .before .before .before .before .before .before .pre .0 .behind,
-    c .before .before .before .before .before .before .before .before .before .before .pre .0 .master,
-    c .before .before .before .before .before .before .before .before .before .before .pre .0 .bit,
-    c .before .before .before .before .before .before .before .before .before .before .pre .1,
-    c .before .before .before .before .before .before .before .before .before .before .fits .end,
-  ),
+  omega (arith, places-read _ _ _ _ (c .before .before .before .before .before .before .before .before .before .before .pre .0) _ (c .before .before .before .before .before .before .before .slot-of .ensures) _ (c .before .before .before .before .before .before .partition-of .ensures), c .before .before .before .before .before .before .before .before .before .before .pre .1, c .before .before .before .before .before .before .before .before .before .before .fits .end),
+  omega (arith, places-read _ _ _ _ (c .before .before .before .before .before .before .before .before .before .before .pre .0) _ (c .before .before .before .before .before .before .before .slot-of .ensures) _ (c .before .before .before .before .before .before .partition-of .ensures), c .before .before .before .before .before .before .before .before .before .before .pre .1, c .before .before .before .before .before .before .before .before .before .before .fits .end),
   c .before .before .before .before .before .before .before .before .before .before .pre .2,
 )
 
 run-same-requires-3 : tie.Need-run-same-requires-3
 run-same-requires-3 c κs = (
-  omega (
-    arith,
-    ap (λ (s : Slot). s .descriptor .offset) (c .before .before .before .before .before .before .before .before .slot-of .ensures),
-    ap (λ (p : Partition). p .difi .master .offset) (c .before .before .before .before .before .before .before .partition-of .ensures),
-    ap (λ (p : Partition). p .difi .master .size) (c .before .before .before .before .before .before .before .partition-of .ensures),
-    ap (λ (p : Partition). p .difi .selector) (c .before .before .before .before .before .before .before .partition-of .ensures),
-    c .before .before .before .before .before .before .before .before .before .before .before .pre .0 .selector,
-    c .before .before .before .before .before .before .before .before .before .before .before .pre .0 .behind,
-    c .before .before .before .before .before .before .before .before .before .before .before .pre .0 .master,
-    c .before .before .before .before .before .before .before .before .before .before .before .pre .0 .bit,
-    c .before .before .before .before .before .before .before .before .before .before .before .pre .1,
-    c .before .before .before .before .before .before .before .before .before .before .before .fits .end,
-  ),
-  omega (
-    arith,
-    ap (λ (s : Slot). s .descriptor .offset) (c .before .before .before .before .before .before .before .before .slot-of .ensures),
-    ap (λ (p : Partition). p .difi .master .offset) (c .before .before .before .before .before .before .before .partition-of .ensures),
-    ap (λ (p : Partition). p .difi .master .size) (c .before .before .before .before .before .before .before .partition-of .ensures),
-    ap (λ (p : Partition). p .difi .selector) (c .before .before .before .before .before .before .before .partition-of .ensures),
-    c .before .before .before .before .before .before .before .before .before .before .before .pre .0 .selector,
-    c .before .before .before .before .before .before .before .before .before .before .before .pre .0 .behind,
-    c .before .before .before .before .before .before .before .before .before .before .before .pre .0 .master,
-    c .before .before .before .before .before .before .before .before .before .before .before .pre .0 .bit,
-    c .before .before .before .before .before .before .before .before .before .before .before .pre .1,
-    c .before .before .before .before .before .before .before .before .before .before .before .fits .end,
-  ),
+  omega (arith, places-read _ _ _ _ (c .before .before .before .before .before .before .before .before .before .before .before .pre .0) _ (c .before .before .before .before .before .before .before .before .slot-of .ensures) _ (c .before .before .before .before .before .before .before .partition-of .ensures), c .before .before .before .before .before .before .before .before .before .before .before .pre .1, c .before .before .before .before .before .before .before .before .before .before .before .fits .end),
+  omega (arith, places-read _ _ _ _ (c .before .before .before .before .before .before .before .before .before .before .before .pre .0) _ (c .before .before .before .before .before .before .before .before .slot-of .ensures) _ (c .before .before .before .before .before .before .before .partition-of .ensures), c .before .before .before .before .before .before .before .before .before .before .before .pre .1, c .before .before .before .before .before .before .before .before .before .before .before .fits .end),
   c .before .before .before .before .before .before .before .before .before .before .before .pre .2,
 )
 
