@@ -1,17 +1,15 @@
 -- `walks::listing::+list_folder+list_folders` meets its contract. Assumes nothing.
-use Prim.Native.Nat.{ℕ, suc, _+_, _≤_}
-use mathlib.Core.Path.{_≡_, refl, sym, ap, _∙_}
-use mathlib.Core.List.{List, _∷_}
+use Prim.Native.Nat.{ℕ, _+_, _≤_}
+use mathlib.Core.Path.{_≡_, refl, sym, _∙_}
 use native.Mathlib.Omega.{arith}
-use native.Mathlib.Numerals.{add-one}
 use lib.ListN.{length}
 use Rattle.views.specs.Versions.{versionOf}
-use Rattle.names.specs.Entries.{firstFolder}
-use Rattle.names.specs.Listing.{Entry, Outcome, folder, next, files, folders}
-use Rattle.names.specs.Walks.{Holds, unvisited}
+use Rattle.names.specs.Listing.{folders}
+use Rattle.names.specs.Walks.{unvisited}
 use Rattle.names.proofs.EntryLaws.{place-ends}
-use Rattle.names.proofs.WalkLaws.{Onward, onward-start, stops, stops-goes, stops-fewer, goes-on, fewer-on, goes-met, fewer-met, ready-on, gained, met-own, folder-held, folder-deep, folder-stops, folder-opens, walks-stop, walks-met, folders-go, folders-stop, folders-end}
+use Rattle.names.proofs.WalkLaws.{onward-start, stops, stops-goes, stops-fewer, goes-on, fewer-on, goes-met, fewer-met, ready-on, Gained, gained, met-own, folder-deep, folder-stops, folders-stop, folders-end}
 use Rattle.entries.specs.Known.{Knows}
+use Rattle.walks.proofs.FolderLaws.{folder-ends, folder-goes, Reaches, reaches-on}
 use Prim.Native.Nat.{ℕ, _<_}
 use borrow.Fn.Kinds.{In}
 use borrow.Fn.PlainCycle.{Measures, is, falls, and}
@@ -103,15 +101,25 @@ list-folder-returns-2 t c =
       (stops-goes (c .before .before .before .before .before .before .before .meet .result) _ _ _ _ _ stop, (stops-fewer (c .before .before .before .before .before .before .before .meet .result) _ _ _ _ stop, c .before .before .before .before .before .before .before .meet .ensures .1 .1)),
     )
 
+-- its own entry is met
+own-met : (t : ℕ) (c : list-folder-lts.After-own (list-folder-callees t) (list-folder-at t) list-folder.Post)
+    → let a = c .before .before .before .before .before .before .before .before .before .before .before .before .before .before .before .before .before .before .args in let after = c .before .before .before .before .before .before .before .before .meet .last .1 .1 .1 .1 .1 in
+    Gained (versionOf (a .view) (a .image .now) .verified) (a .s .log) (a .s .folders) 0 (a .e) (a .met) (c .own .given .0 .0) (versionOf (a .view) (a .image .now) .bytes) (a .folder-marks .now) (a .row .now) (after .0) (after .1 .0)
+own-met t c = gained _ _ _ _ _ _ _ _ _ _ _ _ _ (c .before .before .before .before .before .before .before .before .before .before .before .before .before .before .before .before .before .before .pre .1 .1 .logs) (sym (c .own .given .1) ∙ c .before .before .before .before .before .before .before .before .meet .ensures .0) (c .before .before .before .before .before .before .before .before .meet .ensures .1 .0)
+
 list-folder-field-of-requires : (t : ℕ) → list-folder-lts.Need-field-of-requires (list-folder-callees t) (list-folder-at t) list-folder.Post
 list-folder-field-of-requires t c κs =
-    let g = gained _ _ _ _ _ _ _ _ _ _ _ _ _ (c .before .before .before .before .before .before .before .before .before .before .before .before .before .before .before .before .before .before .before .before .before .before .before .pre .1 .1 .logs) (sym (c .before .before .before .before .before .own .given .1) ∙ c .before .before .before .before .before .before .before .before .before .before .before .before .before .meet .ensures .0) (c .before .before .before .before .before .before .before .before .before .before .before .before .before .meet .ensures .1 .0) in
-    (c .before .before .before .before .before .before .before .before .before .before .before .before .before .before .before .before .before .before .before .before .before .before .before .pre .1 .0 .rules, omega (arith, c .before .before .before .before .before .before .before .before .before .before .before .before .before .before .before .before .before .before .before .before .before .before .before .pre .1 .1 .folders, c .before .before .before .before .before .before .before .before .before .before .before .before .before .before .before .before .before .before .before .before .before .before .before .pre .1 .1 .folder, place-ends (c .before .before .before .before .before .before .before .before .before .before .before .before .before .before .before .before .before .before .before .before .before .before .before .args .s .folders) (c .before .before .before .before .before .before .before .before .before .before .before .before .before .before .before .before .before .before .before .before .before .before .before .args .e) (g .inside)))
+    let a = c .before .before .before .before .before .before .before .before .before .before .before .before .before .before .before .before .before .before .before .before .before .before .before .args in
+    let p = c .before .before .before .before .before .before .before .before .before .before .before .before .before .before .before .before .before .before .before .before .before .before .before .pre .1 in
+    let g = own-met t (c .before .before .before .before .before) in
+    (p .0 .rules, omega (arith, p .1 .folders, p .1 .folder, place-ends (a .s .folders) (a .e) (g .inside)))
 
 list-folder-list-files-requires : (t : ℕ) → list-folder-lts.Need-list-files-requires (list-folder-callees t) (list-folder-at t) list-folder.Post
 list-folder-list-files-requires t c κs =
-    let g = gained _ _ _ _ _ _ _ _ _ _ _ _ _ (c .before .before .before .before .before .before .before .before .before .before .before .before .before .before .before .before .before .before .before .before .before .before .before .before .pre .1 .1 .logs) (sym (c .before .before .before .before .before .before .own .given .1) ∙ c .before .before .before .before .before .before .before .before .before .before .before .before .before .before .meet .ensures .0) (c .before .before .before .before .before .before .before .before .before .before .before .before .before .before .meet .ensures .1 .0) in
-    (record { rules = c .before .before .before .before .before .before .before .before .before .before .before .before .before .before .before .before .before .before .before .before .before .before .before .before .pre .1 .0 .rules; knows = c .before .before .before .before .before .before .before .before .before .before .before .before .before .before .meet .ensures .1 .1 }, ready-on (c .before .before .before .before .before .before .before .before .before .before .before .before .before .before .before .before .before .before .before .before .before .before .before .before .args .s) _ _ _ _ _ _ _ _ (c .before .before .before .before .before .before .before .before .before .before .before .before .before .before .before .before .before .before .before .before .before .before .before .before .pre .1 .1) (c .before .before .before .before .before .before .before .before .before .before .before .before .before .before .meet .kept .1 .1 .1 .1 .1 .0) refl (omega (arith, g .fewer, g .count)))
+    let a = c .before .before .before .before .before .before .before .before .before .before .before .before .before .before .before .before .before .before .before .before .before .before .before .before .args in
+    let p = c .before .before .before .before .before .before .before .before .before .before .before .before .before .before .before .before .before .before .before .before .before .before .before .before .pre in
+    let g = own-met t (c .before .before .before .before .before .before) in
+    (record { rules = p .1 .0 .rules; knows = c .before .before .before .before .before .before .before .before .before .before .before .before .before .before .meet .ensures .1 .1 }, ready-on (a .s) (a .view .level4 .log) (a .view .level4 .size) (a .folder-marks .now) (a .file-marks .now) (c .before .before .before .before .before .before .before .before .before .before .before .before .before .before .meet .last .1 .1 .1 .1 .1 .0) (a .file-marks .now) (a .met) (c .before .before .before .before .before .before .own .given .0 .0) (p .1 .1) (c .before .before .before .before .before .before .before .before .before .before .before .before .before .before .meet .kept .1 .1 .1 .1 .1 .0) refl (omega (arith, g .fewer, g .count)))
 
 list-folder-enum-known-inside : (t : ℕ) → list-folder-lts.Need-enum-known-inside (list-folder-callees t) (list-folder-at t) list-folder.Post
 list-folder-enum-known-inside t c = c .match2 .keys1
@@ -130,31 +138,37 @@ list-folder-same-length-7 t c = c .before .before .before .before .before .befor
 
 list-folder-returns-3 : (t : ℕ) → list-folder-lts.Need-returns-3 (list-folder-callees t) (list-folder-at t) list-folder.Post
 list-folder-returns-3 t c =
-    let g = gained _ _ _ _ _ _ _ _ _ _ _ _ _ (c .before .before .before .before .before .before .before .before .before .before .before .before .before .before .before .before .before .before .before .before .before .before .before .before .before .before .before .before .before .before .before .before .pre .1 .1 .logs) (sym (c .before .before .before .before .before .before .before .before .before .before .before .before .before .before .own .given .1) ∙ c .before .before .before .before .before .before .before .before .before .before .before .before .before .before .before .before .before .before .before .before .before .before .meet .ensures .0) (c .before .before .before .before .before .before .before .before .before .before .before .before .before .before .before .before .before .before .before .before .before .before .meet .ensures .1 .0) in
     let a = c .before .before .before .before .before .before .before .before .before .before .before .before .before .before .before .before .before .before .before .before .before .before .before .before .before .before .before .before .before .before .before .before .args in
+    let after = c .before .before .before .before .before .before .before .before .before .before .before .before .before .before .before .before .before .before .before .before .before .before .meet .last .1 .1 .1 .1 .1 in
     let stop = stops (c .before .before .before .before .before .before .before .list-files .result) (c .match2 .keys2) in (
-      λ base m q h.
-          let n : c .before .before .before .before .before .before .before .before .before .before .before .before .before .before .own .given .0 .0 ≡ length (folder (a .e) ∷ m) = omega (arith, g .count, q) in
-          let held = folder-held (a .s) (versionOf (a .view) (a .image .now) .bytes) (versionOf (a .view) (a .image .now) .verified) base (a .folder-marks .now) (a .file-marks .now) (a .row .now) m (a .e) (a .met) _ _ _ q h g in
-          rw (folder-opens (a .s) (versionOf (a .view) (a .image .now) .bytes) (versionOf (a .view) (a .image .now) .verified) base (a .folder-marks .now) (a .file-marks .now) (a .row .now) (a .depth) (a .e) (a .met) _ m _ _ (c .before .before .before .before .before .before .before .before .before .before .before .before .before .before .before .before .before .before .before .before .before .before .before .before .before .before .if1 .left) h g, ← c .before .before .before .before .before .before .before .before .field-of .ensures)
-          (walks-stop (a .s) (versionOf (a .view) (a .image .now) .bytes) base _ _ _ _ _ _ _ _ _ stop (c .before .before .before .before .before .before .before .list-files .ensures .0 base (folder (a .e) ∷ m) n held)),
+      folder-ends (a .s) (versionOf (a .view) (a .image .now) .bytes) (versionOf (a .view) (a .image .now) .verified) (a .folder-marks .now) (a .file-marks .now) (a .row .now) (after .0) (after .1 .0) _ _ (a .depth) (a .e) (a .met) _ _ (c .before .before .before .before .before .before .before .list-files .result) (c .before .before .before .before .before .before .before .before .before .before .before .before .before .before .before .before .before .before .before .before .before .before .before .before .before .before .if1 .left) (own-met t (c .before .before .before .before .before .before .before .before .before .before .before .before .before .before)) (c .before .before .before .before .before .before .before .before .field-of .ensures) (c .before .before .before .before .before .before .before .list-files .ensures .0) stop,
       (stops-goes (c .before .before .before .before .before .before .before .list-files .result) _ _ _ _ _ stop, (stops-fewer (c .before .before .before .before .before .before .before .list-files .result) _ _ _ _ stop, c .before .before .before .before .before .before .before .list-files .ensures .1 .1)),
     )
 
+-- its files are listed
+files-met : (t : ℕ) (c : list-folder-lts.After-inside (list-folder-callees t) (list-folder-at t) list-folder.Post)
+    → let a = c .before .before .before .before .before .before .before .before .before .before .before .before .before .before .before .before .before .before .before .before .before .before .before .before .before .before .before .before .before .before .before .before .before .args in let after = c .before .before .before .before .before .before .before .before .before .before .before .before .before .before .before .before .before .before .before .before .before .before .before .meet .last .1 .1 .1 .1 .1 in let files = unvisited (a .s .files) (c .before .before .before .before .before .before .before .before .list-files .last .1 .1 .1 .1 .1 .0) in
+    (c .inside .given .0 .0 + unvisited (a .s .folders) (after .0) + files ≡ c .before .before .before .before .before .before .before .before .before .before .before .before .before .before .before .own .given .0 .0 + unvisited (a .s .folders) (after .0) + unvisited (a .s .files) (a .file-marks .now)) × (unvisited (a .s .folders) (after .0) ≤ unvisited (a .s .folders) (after .0)) × (files ≤ unvisited (a .s .files) (a .file-marks .now))
+files-met t c = goes-met (c .before .before .before .before .before .before .before .before .list-files .result) _ _ _ _ _ _ (c .inside .given .1) (c .before .before .before .before .before .before .before .before .list-files .ensures .1 .0)
+
 list-folder-field-of-requires-2 : (t : ℕ) → list-folder-lts.Need-field-of-requires-2 (list-folder-callees t) (list-folder-at t) list-folder.Post
 list-folder-field-of-requires-2 t c κs =
-    let g = gained _ _ _ _ _ _ _ _ _ _ _ _ _ (c .before .before .before .before .before .before .before .before .before .before .before .before .before .before .before .before .before .before .before .before .before .before .before .before .before .before .before .before .before .before .before .before .before .before .before .before .before .before .pre .1 .1 .logs) (sym (c .before .before .before .before .before .before .before .before .before .before .before .before .before .before .before .before .before .before .before .before .own .given .1) ∙ c .before .before .before .before .before .before .before .before .before .before .before .before .before .before .before .before .before .before .before .before .before .before .before .before .before .before .before .before .meet .ensures .0) (c .before .before .before .before .before .before .before .before .before .before .before .before .before .before .before .before .before .before .before .before .before .before .before .before .before .before .before .before .meet .ensures .1 .0) in
-    (c .before .before .before .before .before .before .before .before .before .before .before .before .before .before .before .before .before .before .before .before .before .before .before .before .before .before .before .before .before .before .before .before .before .before .before .before .before .before .pre .1 .0 .rules, omega (arith, c .before .before .before .before .before .before .before .before .before .before .before .before .before .before .before .before .before .before .before .before .before .before .before .before .before .before .before .before .before .before .before .before .before .before .before .before .before .before .pre .1 .1 .folders, c .before .before .before .before .before .before .before .before .before .before .before .before .before .before .before .before .before .before .before .before .before .before .before .before .before .before .before .before .before .before .before .before .before .before .before .before .before .before .pre .1 .1 .folder, place-ends (c .before .before .before .before .before .before .before .before .before .before .before .before .before .before .before .before .before .before .before .before .before .before .before .before .before .before .before .before .before .before .before .before .before .before .before .before .before .before .args .s .folders) (c .before .before .before .before .before .before .before .before .before .before .before .before .before .before .before .before .before .before .before .before .before .before .before .before .before .before .before .before .before .before .before .before .before .before .before .before .before .before .args .e) (g .inside)))
+    let a = c .before .before .before .before .before .before .before .before .before .before .before .before .before .before .before .before .before .before .before .before .before .before .before .before .before .before .before .before .before .before .before .before .before .before .before .before .before .before .args in
+    let p = c .before .before .before .before .before .before .before .before .before .before .before .before .before .before .before .before .before .before .before .before .before .before .before .before .before .before .before .before .before .before .before .before .before .before .before .before .before .before .pre .1 in
+    let g = own-met t (c .before .before .before .before .before .before .before .before .before .before .before .before .before .before .before .before .before .before .before .before) in
+    (p .0 .rules, omega (arith, p .1 .folders, p .1 .folder, place-ends (a .s .folders) (a .e) (g .inside)))
 
 list-folder-add-list-folders : (t : ℕ) → list-folder-lts.Need-add-list-folders (list-folder-callees t) (list-folder-at t) list-folder.Post
 list-folder-add-list-folders t c = omega (arith, c .before .before .before .before .before .before .before .before .before .before .before .before .before .before .before .before .before .before .before .before .before .before .before .before .before .before .before .before .before .before .before .before .before .if1 .left)
 
 list-folder-list-folders-requires : (t : ℕ) → list-folder-lts.Need-list-folders-requires (list-folder-callees t) (list-folder-at t) list-folder.Post
 list-folder-list-folders-requires t c κs =
-    let g = gained _ _ _ _ _ _ _ _ _ _ _ _ _ (c .before .before .before .before .before .before .before .before .before .before .before .before .before .before .before .before .before .before .before .before .before .before .before .before .before .before .before .before .before .before .before .before .before .before .before .before .before .before .before .pre .1 .1 .logs) (sym (c .before .before .before .before .before .before .before .before .before .before .before .before .before .before .before .before .before .before .before .before .before .own .given .1) ∙ c .before .before .before .before .before .before .before .before .before .before .before .before .before .before .before .before .before .before .before .before .before .before .before .before .before .before .before .before .before .meet .ensures .0) (c .before .before .before .before .before .before .before .before .before .before .before .before .before .before .before .before .before .before .before .before .before .before .before .before .before .before .before .before .before .meet .ensures .1 .0) in
-    let w = goes-met (c .before .before .before .before .before .before .before .before .before .before .before .before .before .before .list-files .result) _ _ _ _ _ _ (c .before .before .before .before .before .before .inside .given .1) (c .before .before .before .before .before .before .before .before .before .before .before .before .before .before .list-files .ensures .1 .0) in (
-      omega (arith, c .before .before .before .before .before .before .before .before .before .before .before .before .before .before .before .before .before .before .before .before .before .before .before .before .before .before .before .before .before .before .before .before .before .before .before .before .before .before .before .pre .0, g .fewer),
-      (record { rules = c .before .before .before .before .before .before .before .before .before .before .before .before .before .before .before .before .before .before .before .before .before .before .before .before .before .before .before .before .before .before .before .before .before .before .before .before .before .before .before .pre .1 .0 .rules; knows = c .before .before .before .before .before .before .before .before .before .before .before .before .before .before .list-files .ensures .1 .1 }, ready-on (c .before .before .before .before .before .before .before .before .before .before .before .before .before .before .before .before .before .before .before .before .before .before .before .before .before .before .before .before .before .before .before .before .before .before .before .before .before .before .before .args .s) _ _ _ _ _ _ _ _ (c .before .before .before .before .before .before .before .before .before .before .before .before .before .before .before .before .before .before .before .before .before .before .before .before .before .before .before .before .before .before .before .before .before .before .before .before .before .before .before .pre .1 .1) (c .before .before .before .before .before .before .before .before .before .before .before .before .before .before .before .before .before .before .before .before .before .before .before .before .before .before .before .before .before .meet .kept .1 .1 .1 .1 .1 .0) (c .before .before .before .before .before .before .before .before .before .before .before .before .before .before .list-files .kept .1 .1 .1 .1 .1 .0) (omega (arith, g .fewer, g .count, w .0))),
+    let a = c .before .before .before .before .before .before .before .before .before .before .before .before .before .before .before .before .before .before .before .before .before .before .before .before .before .before .before .before .before .before .before .before .before .before .before .before .before .before .before .args in
+    let p = c .before .before .before .before .before .before .before .before .before .before .before .before .before .before .before .before .before .before .before .before .before .before .before .before .before .before .before .before .before .before .before .before .before .before .before .before .before .before .before .pre in
+    let g = own-met t (c .before .before .before .before .before .before .before .before .before .before .before .before .before .before .before .before .before .before .before .before .before) in
+    let w = files-met t (c .before .before .before .before .before .before) in (
+      omega (arith, p .0, g .fewer),
+      (record { rules = p .1 .0 .rules; knows = c .before .before .before .before .before .before .before .before .before .before .before .before .before .before .list-files .ensures .1 .1 }, ready-on (a .s) (a .view .level4 .log) (a .view .level4 .size) (a .folder-marks .now) (a .file-marks .now) (c .before .before .before .before .before .before .before .before .before .before .before .before .before .before .before .before .before .before .before .before .before .before .before .before .before .before .before .before .before .meet .last .1 .1 .1 .1 .1 .0) (c .before .before .before .before .before .before .before .before .before .before .before .before .before .before .list-files .last .1 .1 .1 .1 .1 .0) (a .met) (c .before .before .before .before .before .before .inside .given .0 .0) (p .1 .1) (c .before .before .before .before .before .before .before .before .before .before .before .before .before .before .before .before .before .before .before .before .before .before .before .before .before .before .before .before .before .meet .kept .1 .1 .1 .1 .1 .0) (c .before .before .before .before .before .before .before .before .before .before .before .before .before .before .list-files .kept .1 .1 .1 .1 .1 .0) (omega (arith, g .fewer, g .count, w .0))),
     )
 
 list-folder-same-length-8 : (t : ℕ) → list-folder-lts.Need-same-length-8 (list-folder-callees t) (list-folder-at t) list-folder.Post
@@ -171,23 +185,18 @@ list-folder-same-length-11 t c = c .before .before .before .before .before .befo
 
 list-folder-returns-4 : (t : ℕ) → list-folder-lts.Need-returns-4 (list-folder-callees t) (list-folder-at t) list-folder.Post
 list-folder-returns-4 t c =
-    let g = gained _ _ _ _ _ _ _ _ _ _ _ _ _ (c .before .before .before .before .before .before .before .before .before .before .before .before .before .before .before .before .before .before .before .before .before .before .before .before .before .before .before .before .before .before .before .before .before .before .before .before .before .before .before .before .before .before .before .before .before .before .before .before .pre .1 .1 .logs) (sym (c .before .before .before .before .before .before .before .before .before .before .before .before .before .before .before .before .before .before .before .before .before .before .before .before .before .before .before .before .before .before .own .given .1) ∙ c .before .before .before .before .before .before .before .before .before .before .before .before .before .before .before .before .before .before .before .before .before .before .before .before .before .before .before .before .before .before .before .before .before .before .before .before .before .before .meet .ensures .0) (c .before .before .before .before .before .before .before .before .before .before .before .before .before .before .before .before .before .before .before .before .before .before .before .before .before .before .before .before .before .before .before .before .before .before .before .before .before .before .meet .ensures .1 .0) in
     let a = c .before .before .before .before .before .before .before .before .before .before .before .before .before .before .before .before .before .before .before .before .before .before .before .before .before .before .before .before .before .before .before .before .before .before .before .before .before .before .before .before .before .before .before .before .before .before .before .before .args in
-    let w = goes-met (c .before .before .before .before .before .before .before .before .before .before .before .before .before .before .before .before .before .before .before .before .before .before .before .list-files .result) _ _ _ _ _ _ (c .before .before .before .before .before .before .before .before .before .before .before .before .before .before .before .inside .given .1) (c .before .before .before .before .before .before .before .before .before .before .before .before .before .before .before .before .before .before .before .before .before .before .before .list-files .ensures .1 .0) in (
-      λ base m q h.
-          let n : c .before .before .before .before .before .before .before .before .before .before .before .before .before .before .before .before .before .before .before .before .before .before .before .before .before .before .before .before .before .before .own .given .0 .0 ≡ length (folder (a .e) ∷ m) = omega (arith, g .count, q) in
-          let held = folder-held (a .s) (versionOf (a .view) (a .image .now) .bytes) (versionOf (a .view) (a .image .now) .verified) base (a .folder-marks .now) (a .file-marks .now) (a .row .now) m (a .e) (a .met) _ _ _ q h g in
-          let went = walks-met (a .s) (versionOf (a .view) (a .image .now) .bytes) base _ (c .before .before .before .before .before .before .before .before .before .before .before .before .before .before .before .before .before .before .before .before .before .before .before .list-files .result) _ _ _ _ (c .before .before .before .before .before .before .before .before .before .before .before .before .before .before .before .inside .given .1) (c .before .before .before .before .before .before .before .before .before .before .before .before .before .before .before .before .before .before .before .before .before .before .before .list-files .ensures .0 base (folder (a .e) ∷ m) n held) in
-          let o = folder-opens (a .s) (versionOf (a .view) (a .image .now) .bytes) (versionOf (a .view) (a .image .now) .verified) base (a .folder-marks .now) (a .file-marks .now) (a .row .now) (a .depth) (a .e) (a .met) _ m _ _ (c .before .before .before .before .before .before .before .before .before .before .before .before .before .before .before .before .before .before .before .before .before .before .before .before .before .before .before .before .before .before .before .before .before .before .before .before .before .before .before .before .before .before .if1 .left) h g
-          ∙ ap (λ (x : ℕ). next (files (a .s) (versionOf (a .view) (a .image .now) .bytes) (versionOf (a .view) (a .image .now) .verified) x (folder (a .e) ∷ m)) (folders (a .s) (versionOf (a .view) (a .image .now) .bytes) (versionOf (a .view) (a .image .now) .verified) (suc (a .depth)) (firstFolder (a .s) (versionOf (a .view) (a .image .now) .bytes) (a .e)))) (sym (c .before .before .before .before .before .before .before .before .before .before .before .before .before .before .before .before .before .before .before .before .before .before .before .before .field-of .ensures))
-          ∙ ap (λ (x : Outcome). next x (folders (a .s) (versionOf (a .view) (a .image .now) .bytes) (versionOf (a .view) (a .image .now) .verified) (suc (a .depth)) (firstFolder (a .s) (versionOf (a .view) (a .image .now) .bytes) (a .e)))) (went .outcome)
-          ∙ ap (λ (x : ℕ). folders (a .s) (versionOf (a .view) (a .image .now) .bytes) (versionOf (a .view) (a .image .now) .verified) (suc (a .depth)) x (went .names)) (sym (c .before .before .before .before .before .before .before .before .before .field-of2 .ensures))
-          ∙ ap (λ (x : ℕ). folders (a .s) (versionOf (a .view) (a .image .now) .bytes) (versionOf (a .view) (a .image .now) .verified) x (c .before .before .before .before .before .before .before .before .before .field-of2 .result) (went .names)) (sym (add-one (a .depth))) in
-          rw o (c .before .before .before .before .before .before .before .before .list-folders .ensures .0 base (went .names) (went .count) (went .holds)),
+    let after = c .before .before .before .before .before .before .before .before .before .before .before .before .before .before .before .before .before .before .before .before .before .before .before .before .before .before .before .before .before .before .before .before .before .before .before .before .before .before .meet .last .1 .1 .1 .1 .1 in
+    let listed = c .before .before .before .before .before .before .before .before .before .before .before .before .before .before .before .before .before .before .before .before .before .before .before .list-files .last .1 .1 .1 .1 .1 in
+    let end = c .before .before .before .before .before .before .before .before .list-folders .last .1 .1 .1 .1 in
+    let r = c .before .before .before .before .before .before .before .before .list-folders .result in
+    let g = own-met t (c .before .before .before .before .before .before .before .before .before .before .before .before .before .before .before .before .before .before .before .before .before .before .before .before .before .before .before .before .before .before) in
+    let w = files-met t (c .before .before .before .before .before .before .before .before .before .before .before .before .before .before .before) in (
+      folder-goes (a .s) (versionOf (a .view) (a .image .now) .bytes) (versionOf (a .view) (a .image .now) .verified) (a .folder-marks .now) (a .file-marks .now) (a .row .now) (after .0) (after .1 .0) (listed .0) (listed .1 .0) (a .depth) (a .e) (a .met) _ _ (c .before .before .before .before .before .before .before .before .before .before .before .before .before .before .before .before .before .before .before .before .before .before .before .list-files .result) (c .before .before .before .before .before .before .before .before .before .before .before .before .before .before .before .before .before .before .before .before .before .before .before .before .before .before .before .before .before .before .before .before .before .before .before .before .before .before .before .before .before .before .if1 .left) g (c .before .before .before .before .before .before .before .before .before .before .before .before .before .before .before .before .before .before .before .before .before .before .before .before .field-of .ensures) (c .before .before .before .before .before .before .before .before .before .before .before .before .before .before .before .before .before .before .before .before .before .before .before .list-files .ensures .0) _ _ r (end .0) (end .1 .0) (end .1 .1 .0) (c .before .before .before .before .before .before .before .before .before .before .before .before .before .before .before .inside .given .1) (c .before .before .before .before .before .before .before .before .before .field-of2 .ensures) (c .before .before .before .before .before .before .before .before .list-folders .ensures .0),
       (
-        goes-on (c .before .before .before .before .before .before .before .before .list-folders .result) _ _ _ _ _ _ _ _ (omega (arith, g .fewer, g .count, w .0)) (omega (arith, g .fewer)) (w .2) (c .before .before .before .before .before .before .before .before .list-folders .ensures .1 .0),
+        goes-on r (a .met) (unvisited (a .s .folders) (a .folder-marks .now)) (unvisited (a .s .files) (a .file-marks .now)) (c .before .before .before .before .before .before .before .before .before .before .before .before .before .before .before .inside .given .0 .0) (unvisited (a .s .folders) (after .0)) (unvisited (a .s .files) (listed .0)) (unvisited (a .s .folders) (end .0)) (unvisited (a .s .files) (end .1 .0)) (omega (arith, g .fewer, g .count, w .0)) (omega (arith, g .fewer)) (w .2) (c .before .before .before .before .before .before .before .before .list-folders .ensures .1 .0),
         (
-          fewer-on (c .before .before .before .before .before .before .before .before .list-folders .result) _ _ _ _ _ _ _ _ (omega (arith, g .fewer)) (g .inside) (c .before .before .before .before .before .before .before .before .list-folders .ensures .1 .0),
+          fewer-on r (a .s .folders) (a .e) (unvisited (a .s .folders) (a .folder-marks .now)) (c .before .before .before .before .before .before .before .before .before .before .before .before .before .before .before .inside .given .0 .0) (unvisited (a .s .folders) (after .0)) (unvisited (a .s .files) (listed .0)) (unvisited (a .s .folders) (end .0)) (unvisited (a .s .files) (end .1 .0)) (omega (arith, g .fewer)) (g .inside) (c .before .before .before .before .before .before .before .before .list-folders .ensures .1 .0),
           c .before .before .before .before .before .before .before .before .list-folders .ensures .1 .1,
         ),
       ),
@@ -198,8 +207,7 @@ list-folders-Inv-loop s view image known₀ folder-marks₀ file-marks₀ row₀
     (length known ≡ length known₀) × (length folder-marks ≡ length folder-marks₀) × (length file-marks ≡ length file-marks₀) × (length row ≡ length row₀) × Knows view image known
     × (n + unvisited (s .folders) folder-marks + unvisited (s .files) file-marks ≡ met + unvisited (s .folders) folder-marks₀ + unvisited (s .files) file-marks₀)
     × (unvisited (s .folders) folder-marks ≤ unvisited (s .folders) folder-marks₀) × (unvisited (s .files) file-marks ≤ unvisited (s .files) file-marks₀)
-    × ((base : List ℕ) (m : List Entry) → met ≡ length m → Holds s (versionOf view image .bytes) base m folder-marks₀ file-marks₀ row₀
-    → Onward s (versionOf view image .bytes) base (folders s (versionOf view image .bytes) (versionOf view image .verified) depth) first m folder-marks file-marks row e n)
+    × Reaches s (versionOf view image .bytes) met folder-marks₀ file-marks₀ row₀ (folders s (versionOf view image .bytes) (versionOf view image .verified) depth) first folder-marks file-marks row e n
 
 abbrev list-folders-μ-loop : list-folders-lts.MeasureT-loop
 list-folders-μ-loop s view image known₀ folder-marks₀ file-marks₀ row₀ first depth met e₀ n₀ known folder-marks file-marks row e n = unvisited (s .folders) folder-marks
@@ -239,21 +247,25 @@ list-folders-returns t c =
       (stops-goes (c .before .before .before .before .before .before .before .before .before .list-folder .result) _ _ _ _ _ stop, c .before .before .before .before .before .before .before .before .before .list-folder .ensures .1 .1 .1),
     )
 
+-- a folder is listed
+below-met : (t : ℕ) (c : list-folders-lts.After-below (list-folders-callees t) (list-folders-at t) list-folders.Post list-folders-Inv-loop list-folders-μ-loop)
+    → let s = c .before .before .before .before .before .before .before .before .before .before .before .before .before .before .before .before .before .before .before .before .before .before .args .s in let l = c .before .before .before .before .before .before .before .before .before .before .before .before .before .before .before .before .loop in (unvisited (s .folders) (c .before .before .before .before .before .before .before .before .before .before .list-folder .last .1 .1 .1 .1 .0) < unvisited (s .folders) (l .folder-marks)) × (l .e < s .folders .max)
+below-met t c = fewer-met (c .before .before .before .before .before .before .before .before .before .before .list-folder .result) (c .before .before .before .before .before .before .before .before .before .before .before .before .before .before .before .before .before .before .before .before .before .before .args .s .folders) _ (c .before .before .before .before .before .before .before .before .before .before .before .before .before .before .before .before .loop .e) _ _ (c .below .given .1) (c .before .before .before .before .before .before .before .before .before .before .list-folder .ensures .1 .1 .0)
+
 list-folders-field-of-requires : (t : ℕ) → list-folders-lts.Need-field-of-requires (list-folders-callees t) (list-folders-at t) list-folders.Post list-folders-Inv-loop list-folders-μ-loop
 list-folders-field-of-requires t c κs =
-    let f = fewer-met (c .before .before .before .before .before .before .before .before .before .before .before .list-folder .result) (c .before .before .before .before .before .before .before .before .before .before .before .before .before .before .before .before .before .before .before .before .before .before .before .args .s .folders) _ (c .before .before .before .before .before .before .before .before .before .before .before .before .before .before .before .before .before .loop .e) _ _ (c .before .below .given .1) (c .before .before .before .before .before .before .before .before .before .before .before .list-folder .ensures .1 .1 .0) in
-    (c .before .before .before .before .before .before .before .before .before .before .before .before .before .before .before .before .before .before .before .before .before .before .before .pre .1 .0 .rules, omega (arith, c .before .before .before .before .before .before .before .before .before .before .before .before .before .before .before .before .before .before .before .before .before .before .before .pre .1 .1 .folders, c .before .before .before .before .before .before .before .before .before .before .before .before .before .before .before .before .before .before .before .before .before .before .before .pre .1 .1 .folder, place-ends (c .before .before .before .before .before .before .before .before .before .before .before .before .before .before .before .before .before .before .before .before .before .before .before .args .s .folders) (c .before .before .before .before .before .before .before .before .before .before .before .before .before .before .before .before .before .loop .e) (f .1)))
+    let p = c .before .before .before .before .before .before .before .before .before .before .before .before .before .before .before .before .before .before .before .before .before .before .before .pre .1 in
+    (p .0 .rules, omega (arith, p .1 .folders, p .1 .folder, place-ends (c .before .before .before .before .before .before .before .before .before .before .before .before .before .before .before .before .before .before .before .before .before .before .before .args .s .folders) (c .before .before .before .before .before .before .before .before .before .before .before .before .before .before .before .before .before .loop .e) (below-met t (c .before) .1)))
 
 list-folders-loop-less : (t : ℕ) → list-folders-lts.Need-loop-less (list-folders-callees t) (list-folders-at t) list-folders.Post list-folders-Inv-loop list-folders-μ-loop
-list-folders-loop-less t c =
-    let f = fewer-met (c .before .before .before .before .before .before .before .before .before .before .before .before .list-folder .result) (c .before .before .before .before .before .before .before .before .before .before .before .before .before .before .before .before .before .before .before .before .before .before .before .before .args .s .folders) _ (c .before .before .before .before .before .before .before .before .before .before .before .before .before .before .before .before .before .before .loop .e) _ _ (c .before .before .below .given .1) (c .before .before .before .before .before .before .before .before .before .before .before .before .list-folder .ensures .1 .1 .0) in
-    omega (arith, f .0)
+list-folders-loop-less t c = omega (arith, below-met t (c .before .before) .0)
 
 list-folders-loop-again : (t : ℕ) → list-folders-lts.Need-loop-again (list-folders-callees t) (list-folders-at t) list-folders.Post list-folders-Inv-loop list-folders-μ-loop
 list-folders-loop-again t c =
     let a = c .before .before .before .before .before .before .before .before .before .before .before .before .before .before .before .before .before .before .before .before .before .before .before .before .args in
     let l = c .before .before .before .before .before .before .before .before .before .before .before .before .before .before .before .before .before .before .loop in
-    let w = goes-met (c .before .before .before .before .before .before .before .before .before .before .before .before .list-folder .result) _ _ _ _ _ _ (c .before .before .below .given .1) (c .before .before .before .before .before .before .before .before .before .before .before .before .list-folder .ensures .1 .0) in (
+    let after = c .before .before .before .before .before .before .before .before .before .before .before .before .list-folder .last .1 .1 .1 .1 in
+    let w = goes-met (c .before .before .before .before .before .before .before .before .before .before .before .before .list-folder .result) (c .before .before .below .given .0 .0) (l .n) (unvisited (a .s .folders) (l .folder-marks)) (unvisited (a .s .files) (l .file-marks)) (unvisited (a .s .folders) (after .0)) (unvisited (a .s .files) (after .1 .0)) (c .before .before .below .given .1) (c .before .before .before .before .before .before .before .before .before .before .before .before .list-folder .ensures .1 .0) in (
       c .before .before .before .before .before .before .before .before .before .before .before .before .list-folder .kept .1 .1 .1 .0 ∙ l .inv .0,
       c .before .before .before .before .before .before .before .before .before .before .before .before .list-folder .kept .1 .1 .1 .1 .0 ∙ l .inv .1,
       c .before .before .before .before .before .before .before .before .before .before .before .before .list-folder .kept .1 .1 .1 .1 .1 .0 ∙ l .inv .2,
@@ -262,10 +274,7 @@ list-folders-loop-again t c =
       w .0 ∙ l .inv .5,
       omega (arith, w .1, l .inv .6),
       omega (arith, w .2, l .inv .7),
-      λ base m q h.
-          let o = l .inv .8 base m q h in
-          folders-go (a .s) (versionOf (a .view) (a .image .now) .bytes) (versionOf (a .view) (a .image .now) .verified) base (a .depth) (l .folder-marks) (l .file-marks) (l .row) (a .first) (l .e) (l .n) _ _ m o _ _ _ (c .before .before .before .before .before .before .before .before .before .before .before .before .before .before .before .before .before .loop-test .taken) (c .field-of .ensures)
-          (walks-met (a .s) (versionOf (a .view) (a .image .now) .bytes) base _ (c .before .before .before .before .before .before .before .before .before .before .before .before .list-folder .result) _ _ _ _ (c .before .before .below .given .1) (c .before .before .before .before .before .before .before .before .before .before .before .before .list-folder .ensures .0 base (o .names) (o .count) (o .holds))),
+      reaches-on (a .s) (versionOf (a .view) (a .image .now) .bytes) (versionOf (a .view) (a .image .now) .verified) (a .folder-marks .now) (a .file-marks .now) (a .row .now) (l .folder-marks) (l .file-marks) (l .row) _ _ _ (a .depth) (a .first) (a .met) (l .e) (l .n) _ _ (c .before .before .before .before .before .before .before .before .before .before .before .before .list-folder .result) (l .inv .8) (c .before .before .before .before .before .before .before .before .before .before .before .before .before .before .before .before .before .loop-test .taken) (c .before .before .below .given .1) (c .field-of .ensures) (c .before .before .before .before .before .before .before .before .before .before .before .before .list-folder .ensures .0),
     )
 
 list-folders-same-length-5 : (t : ℕ) → list-folders-lts.Need-same-length-5 (list-folders-callees t) (list-folders-at t) list-folders.Post list-folders-Inv-loop list-folders-μ-loop
@@ -316,7 +325,7 @@ pub +list-folder+list-folders-spec : {M : Type 1} → statement M
     (list-folder-same-length-11 t)
     (list-folder-returns-4 t))
     λ t. list-folders-lts.spec
-    (list-folder-below t, list-folder.Post, field-of-reads.Asked, field-of-reads.Learnt)
+    (list-folders-callees t)
     (list-folders-at t)
     list-folders.Post
     list-folders-Inv-loop

@@ -1,15 +1,15 @@
 -- `walks::listing::list_files` meets its contract. Assumes nothing.
 use Prim.Native.Nat.{ℕ, _+_, _≤_}
 use mathlib.Core.Path.{_≡_, refl, sym, _∙_}
-use mathlib.Core.List.{List}
 use native.Mathlib.Omega.{arith}
 use lib.ListN.{length}
 use Rattle.views.specs.Versions.{versionOf}
-use Rattle.names.specs.Listing.{Entry, files}
-use Rattle.names.specs.Walks.{Holds, unvisited}
+use Rattle.names.specs.Listing.{files}
+use Rattle.names.specs.Walks.{unvisited}
 use Rattle.names.proofs.EntryLaws.{place-ends}
-use Rattle.names.proofs.WalkLaws.{Onward, onward-start, stops, stops-goes, gained, met-own, file-goes, file-stops, file-ends}
+use Rattle.names.proofs.WalkLaws.{onward-start, stops, stops-goes, Gained, gained, met-own, file-goes, file-stops, file-ends}
 use Rattle.entries.specs.Known.{Knows}
+use Rattle.walks.proofs.FolderLaws.{Reaches}
 use Rattle.walks.proofs.listing.list_files.Statement.{statement}
 use Rattle.walks.proofs.listing.list_files.Tie as tie
 
@@ -17,8 +17,7 @@ abbrev Inv-loop : tie.InvT-loop
 Inv-loop s view image known₀ folder-marks file-marks₀ row₀ first met f₀ n₀ known file-marks row f n =
     (length known ≡ length known₀) × (length file-marks ≡ length file-marks₀) × (length row ≡ length row₀) × Knows view image known
     × (n + unvisited (s .files) file-marks ≡ met + unvisited (s .files) file-marks₀) × (unvisited (s .files) file-marks ≤ unvisited (s .files) file-marks₀)
-    × ((base : List ℕ) (m : List Entry) → met ≡ length m → Holds s (versionOf view image .bytes) base m folder-marks file-marks₀ row₀
-    → Onward s (versionOf view image .bytes) base (files s (versionOf view image .bytes) (versionOf view image .verified)) first m folder-marks file-marks row f n)
+    × Reaches s (versionOf view image .bytes) met folder-marks file-marks₀ row₀ (files s (versionOf view image .bytes) (versionOf view image .verified)) first folder-marks file-marks row f n
 
 abbrev μ-loop : tie.MeasureT-loop
 μ-loop s view image known₀ folder-marks file-marks₀ row₀ first met f₀ n₀ known file-marks row f n = unvisited (s .files) file-marks
@@ -49,19 +48,24 @@ returns c =
       (stops-goes (c .before .before .before .before .before .before .before .meet .result) _ _ _ _ _ stop, c .before .before .before .before .before .before .before .meet .ensures .1 .1),
     )
 
+-- a file is met
+file-met : (c : tie.After-step Inv-loop μ-loop) → let a = c .before .before .before .before .before .before .before .before .before .before .before .before .before .before .before .before .before .before .before .args in let l = c .before .before .before .before .before .before .before .before .before .before .before .before .before .loop in let after = c .before .before .before .before .before .before .before .before .meet .last .1 .1 .1 .1 .1 in
+    Gained (versionOf (a .view) (a .image .now) .verified) (a .s .log) (a .s .files) 1 (l .f) (l .n) (c .step .given .0 .0) (versionOf (a .view) (a .image .now) .bytes) (l .file-marks) (l .row) (after .0) (after .1 .0)
+file-met c = gained _ _ _ _ _ _ _ _ _ _ _ _ _ (c .before .before .before .before .before .before .before .before .before .before .before .before .before .before .before .before .before .before .before .pre .1 .logs) (sym (c .step .given .1) ∙ c .before .before .before .before .before .before .before .before .meet .ensures .0) (c .before .before .before .before .before .before .before .before .meet .ensures .1 .0)
+
 field-of-requires : tie.Need-field-of-requires Inv-loop μ-loop
 field-of-requires c κs =
-    let g = gained _ _ _ _ _ _ _ _ _ _ _ _ _ (c .before .before .before .before .before .before .before .before .before .before .before .before .before .before .before .before .before .before .before .before .pre .1 .logs) (sym (c .before .step .given .1) ∙ c .before .before .before .before .before .before .before .before .before .meet .ensures .0) (c .before .before .before .before .before .before .before .before .before .meet .ensures .1 .0) in
+    let g = file-met (c .before) in
     (c .before .before .before .before .before .before .before .before .before .before .before .before .before .before .before .before .before .before .before .before .pre .0 .rules, omega (arith, c .before .before .before .before .before .before .before .before .before .before .before .before .before .before .before .before .before .before .before .before .pre .1 .files, c .before .before .before .before .before .before .before .before .before .before .before .before .before .before .before .before .before .before .before .before .pre .1 .file, place-ends (c .before .before .before .before .before .before .before .before .before .before .before .before .before .before .before .before .before .before .before .before .args .s .files) (c .before .before .before .before .before .before .before .before .before .before .before .before .before .before .loop .f) (g .inside)))
 
 loop-less : tie.Need-loop-less Inv-loop μ-loop
 loop-less c =
-    let g = gained _ _ _ _ _ _ _ _ _ _ _ _ _ (c .before .before .before .before .before .before .before .before .before .before .before .before .before .before .before .before .before .before .before .before .before .pre .1 .logs) (sym (c .before .before .step .given .1) ∙ c .before .before .before .before .before .before .before .before .before .before .meet .ensures .0) (c .before .before .before .before .before .before .before .before .before .before .meet .ensures .1 .0) in
+    let g = file-met (c .before .before) in
     omega (arith, g .fewer)
 
 loop-again : tie.Need-loop-again Inv-loop μ-loop
 loop-again c =
-    let g = gained _ _ _ _ _ _ _ _ _ _ _ _ _ (c .before .before .before .before .before .before .before .before .before .before .before .before .before .before .before .before .before .before .before .before .before .pre .1 .logs) (sym (c .before .before .step .given .1) ∙ c .before .before .before .before .before .before .before .before .before .before .meet .ensures .0) (c .before .before .before .before .before .before .before .before .before .before .meet .ensures .1 .0) in (
+    let g = file-met (c .before .before) in (
       c .before .before .before .before .before .before .before .before .before .before .meet .kept .1 .1 .0 ∙ c .before .before .before .before .before .before .before .before .before .before .before .before .before .before .before .loop .inv .0,
       c .before .before .before .before .before .before .before .before .before .before .meet .kept .1 .1 .1 .1 .1 .0 ∙ c .before .before .before .before .before .before .before .before .before .before .before .before .before .before .before .loop .inv .1,
       c .before .before .before .before .before .before .before .before .before .before .meet .kept .1 .1 .1 .1 .1 .1 .0 ∙ c .before .before .before .before .before .before .before .before .before .before .before .before .before .before .before .loop .inv .2,

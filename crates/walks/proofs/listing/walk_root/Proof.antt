@@ -1,26 +1,27 @@
 -- `walks::listing::walk_root` meets its contract. Assumes nothing.
-use mathlib.Core.Path.{refl}
+use Prim.Native.Nat.{ℕ}
+use mathlib.Core.Path.{refl, sym}
 use mathlib.Core.List.{[]}
+use lib.ListN.{length-replicate}
 use Rattle.views.specs.Versions.{versionOf}
 use Rattle.names.proofs.WalkLaws.{ready-root, holds-root, root-listed}
-use borrow.Author.Needs.{needs}
 use Rattle.walks.proofs.listing.walk_root.Statement.{statement}
 use Rattle.walks.proofs.listing.walk_root.Tie as tie
 
 slice-aggregate-list-folder : tie.Need-slice-aggregate-list-folder
-slice-aggregate-list-folder c = search needs
+slice-aggregate-list-folder c = sym (length-replicate {A = ℕ} 104858 0)
 
 slice-aggregate-list-folder-2 : tie.Need-slice-aggregate-list-folder-2
-slice-aggregate-list-folder-2 c = search needs
+slice-aggregate-list-folder-2 c = sym (length-replicate {A = ℕ} 87382 0)
 
 list-folder-requires : tie.Need-list-folder-requires
 list-folder-requires c κs = (c .before .before .before .before .before .before .before .pre .0, ready-root (c .before .before .before .before .before .before .before .args .s) _ _ 104858 87382 (c .before .before .before .before .before .before .before .pre .1) refl refl)
 
 same-length : tie.Need-same-length
-same-length c = search needs
+same-length c = c .before .before .before .before .before .before .list-folder .kept .1 .1 .1 .0
 
 same-length-2 : tie.Need-same-length-2
-same-length-2 c = search needs
+same-length-2 c = c .before .before .before .before .before .before .list-folder .kept .1 .1 .1 .1 .1 .1 .0
 
 returns : tie.Need-returns
 returns c =

@@ -32,7 +32,7 @@ read-entries-requires c κs =
     (c .before .before .before .before .before .before .before .before .before .before .before .pre .0, a .0, a .1, a .2)
 
 same-length : tie.Need-same-length
-same-length c = search needs
+same-length c = c .before .before .read-entries .kept .1 .1 .1 .0
 
 returns : tie.Need-returns
 returns c =

@@ -16,16 +16,16 @@ returns : tie.Need-returns
 returns c = (link-zero (c .before .before .before .before .args .s) (versionOf (c .before .before .before .before .args .view) (c .before .before .before .before .args .image .now) .bytes) (versionOf (c .before .before .before .before .args .view) (c .before .before .before .before .args .image .now) .verified) (c .before .before .before .before .args .parent) (c .before .before .before .before .args .name .now) (c .before .before .before .before .args .f) (c .if1 .taken), c .before .before .before .before .pre .0 .knows)
 
 reach-requires : tie.Need-reach-requires
-reach-requires c κs = search needs
+reach-requires c κs = (c .before .before .before .before .before .pre .0, omega (arith, c .before .before .before .before .before .pre .1 .file), c .before .before .before .before .before .pre .1 .files)
 
 enum-told : tie.Need-enum-told
-enum-told c = search needs
+enum-told c = c .match .keys1
 
 enum-known-entry : tie.Need-enum-known-entry
-enum-known-entry c = search needs
+enum-known-entry c = c .match .keys2
 
 enum-known-entry-2 : tie.Need-enum-known-entry-2
-enum-known-entry-2 c = search needs
+enum-known-entry-2 c = c .match .keys3
 
 is-named-requires : tie.Need-is-named-requires
 is-named-requires c κs =
@@ -38,19 +38,19 @@ field-of-requires c κs =
     (c .before .before .before .before .before .before .before .before .before .before .before .before .before .pre .0 .rules, omega (arith, c .before .before .before .before .before .before .before .before .before .before .before .before .before .pre .1 .files, c .before .before .before .before .before .before .before .before .before .before .before .before .before .pre .1 .file, place-ends (c .before .before .before .before .before .before .before .before .before .before .before .before .before .args .s .files) (c .before .before .before .before .before .before .before .before .before .before .before .before .before .args .f) (q .1)))
 
 same-length : tie.Need-same-length
-same-length c = search needs
+same-length c = c .before .before .before .before .reach .kept .1 .1 .0
 
 returns-2 : tie.Need-returns-2
 returns-2 c = (link-is (c .before .before .before .before .before .before .before .before .before .before .args .s) (versionOf (c .before .before .before .before .before .before .before .before .before .before .args .view) (c .before .before .before .before .before .before .before .before .before .before .args .image .now) .bytes) (versionOf (c .before .before .before .before .before .before .before .before .before .before .args .view) (c .before .before .before .before .before .before .before .before .before .before .args .image .now) .verified) (c .before .before .before .before .before .before .before .before .before .before .args .parent) (c .before .before .before .before .before .before .before .before .before .before .args .name .now) (c .before .before .before .before .before .before .before .before .before .before .args .f) (c .before .before .before .before .before .before .if1 .left) _ (ap (λ (l : ℕ). admit (versionOf (c .before .before .before .before .before .before .before .before .before .before .args .view) (c .before .before .before .before .before .before .before .before .before .before .args .image .now) .verified) l (c .before .before .before .before .before .before .before .before .before .before .args .s .files) false (c .before .before .before .before .before .before .before .before .before .before .args .f)) (c .before .before .before .before .before .before .before .before .before .before .pre .1 .logs) ∙ sym (c .before .before .before .before .reach .ensures .0) ∙ c .enum-told .given .1), c .before .before .before .before .reach .ensures .1)
 
 same-length-2 : tie.Need-same-length-2
-same-length-2 c = search needs
+same-length-2 c = c .before .before .before .before .before .reach .kept .1 .1 .0
 
 returns-3 : tie.Need-returns-3
 returns-3 c = (link-is (c .before .before .before .before .before .before .before .before .before .before .before .args .s) (versionOf (c .before .before .before .before .before .before .before .before .before .before .before .args .view) (c .before .before .before .before .before .before .before .before .before .before .before .args .image .now) .bytes) (versionOf (c .before .before .before .before .before .before .before .before .before .before .before .args .view) (c .before .before .before .before .before .before .before .before .before .before .before .args .image .now) .verified) (c .before .before .before .before .before .before .before .before .before .before .before .args .parent) (c .before .before .before .before .before .before .before .before .before .before .before .args .name .now) (c .before .before .before .before .before .before .before .before .before .before .before .args .f) (c .before .before .before .before .before .before .before .if1 .left) _ (ap (λ (l : ℕ). admit (versionOf (c .before .before .before .before .before .before .before .before .before .before .before .args .view) (c .before .before .before .before .before .before .before .before .before .before .before .args .image .now) .verified) l (c .before .before .before .before .before .before .before .before .before .before .before .args .s .files) false (c .before .before .before .before .before .before .before .before .before .before .before .args .f)) (c .before .before .before .before .before .before .before .before .before .before .before .pre .1 .logs) ∙ sym (c .before .before .before .before .before .reach .ensures .0) ∙ c .before .entry .given .1), c .before .before .before .before .before .reach .ensures .1)
 
 same-length-3 : tie.Need-same-length-3
-same-length-3 c = search needs
+same-length-3 c = c .before .before .before .before .before .before .before .reach .kept .1 .1 .0
 
 returns-4 : tie.Need-returns-4
 returns-4 c = (
@@ -60,7 +60,7 @@ returns-4 c = (
 )
 
 same-length-4 : tie.Need-same-length-4
-same-length-4 c = search needs
+same-length-4 c = c .before .before .before .before .before .before .before .before .reach .kept .1 .1 .0
 
 returns-5 : tie.Need-returns-5
 returns-5 c = (

@@ -19,7 +19,7 @@ gather-requires : tie.Need-gather-requires
 gather-requires c κs = (c .before .before .before .pre .0, omega arith, rw (level4-is (c .before .before .before .args .view)) (omega (arith, c .before .before .before .pre .2)))
 
 word-at-requires : tie.Need-word-at-requires
-word-at-requires c κs = search needs
+word-at-requires c κs = (c .before .before .before .before .before .pre .0, omega (arith, c .before .before .before .before .before .pre .2))
 
 slice-aggregate-same-bytes : tie.Need-slice-aggregate-same-bytes
 slice-aggregate-same-bytes c = search needs
