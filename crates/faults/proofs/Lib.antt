@@ -10,3 +10,4 @@ mod LawsHold
 mod TurnLaws
 mod RowLaws
 mod Lent
+pub mod Handed
