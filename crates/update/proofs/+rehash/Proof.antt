@@ -29,7 +29,9 @@ rehash-at t = and 1 rehash-kinds.ps (is 1 rehash-kinds.ps μ-rehash t) rehash.Pr
 abbrev rehash-below : ℕ → In 1 rehash-kinds.ps
 rehash-below t = and 1 rehash-kinds.ps (falls 1 rehash-kinds.ps _<_ μ-rehash t) rehash.Pre
 
-rehash-sub-level-of : (t : ℕ) → rehash-lts.Need-sub-level-of (
+-- what the callees ask and give, with `rehash` itself at a lower level
+abbrev callees : ℕ → rehash-lts.Claims
+callees t = (
   level-of-reads.Asked,
   level-of-reads.Learnt,
   enter-reads.Asked,
@@ -38,43 +40,18 @@ rehash-sub-level-of : (t : ℕ) → rehash-lts.Need-sub-level-of (
   parent-of-reads.Learnt,
   rehash-below t,
   rehash.Post,
-) (rehash-at t) rehash.Post
+)
+
+rehash-sub-level-of : (t : ℕ) → rehash-lts.Need-sub-level-of (callees t) (rehash-at t) rehash.Post
 rehash-sub-level-of t c = search needs
 
-rehash-level-of-requires : (t : ℕ) → rehash-lts.Need-level-of-requires (
-  level-of-reads.Asked,
-  level-of-reads.Learnt,
-  enter-reads.Asked,
-  enter-reads.Learnt,
-  parent-of-reads.Asked,
-  parent-of-reads.Learnt,
-  rehash-below t,
-  rehash.Post,
-) (rehash-at t) rehash.Post
+rehash-level-of-requires : (t : ℕ) → rehash-lts.Need-level-of-requires (callees t) (rehash-at t) rehash.Post
 rehash-level-of-requires t c κs = search needs
 
-rehash-sub-enter : (t : ℕ) → rehash-lts.Need-sub-enter (
-  level-of-reads.Asked,
-  level-of-reads.Learnt,
-  enter-reads.Asked,
-  enter-reads.Learnt,
-  parent-of-reads.Asked,
-  parent-of-reads.Learnt,
-  rehash-below t,
-  rehash.Post,
-) (rehash-at t) rehash.Post
+rehash-sub-enter : (t : ℕ) → rehash-lts.Need-sub-enter (callees t) (rehash-at t) rehash.Post
 rehash-sub-enter t c = search needs
 
-rehash-enter-requires : (t : ℕ) → rehash-lts.Need-enter-requires (
-  level-of-reads.Asked,
-  level-of-reads.Learnt,
-  enter-reads.Asked,
-  enter-reads.Learnt,
-  parent-of-reads.Asked,
-  parent-of-reads.Learnt,
-  rehash-below t,
-  rehash.Post,
-) (rehash-at t) rehash.Post
+rehash-enter-requires : (t : ℕ) → rehash-lts.Need-enter-requires (callees t) (rehash-at t) rehash.Post
 rehash-enter-requires t c κs =
     let s = c .before .before .before .before in
     let a = s .args in
@@ -85,28 +62,10 @@ rehash-enter-requires t c κs =
       below-exists (a .view) (length (a .image .now)) (staged (p .0) .rules) (a .i) (a .last) (omega (arith, c .before .before .if1 .taken)) (p .1) (p .3),
     )
 
-rehash-sub-rehash : (t : ℕ) → rehash-lts.Need-sub-rehash (
-  level-of-reads.Asked,
-  level-of-reads.Learnt,
-  enter-reads.Asked,
-  enter-reads.Learnt,
-  parent-of-reads.Asked,
-  parent-of-reads.Learnt,
-  rehash-below t,
-  rehash.Post,
-) (rehash-at t) rehash.Post
+rehash-sub-rehash : (t : ℕ) → rehash-lts.Need-sub-rehash (callees t) (rehash-at t) rehash.Post
 rehash-sub-rehash t c = search needs
 
-rehash-parent-of-requires : (t : ℕ) → rehash-lts.Need-parent-of-requires (
-  level-of-reads.Asked,
-  level-of-reads.Learnt,
-  enter-reads.Asked,
-  enter-reads.Learnt,
-  parent-of-reads.Asked,
-  parent-of-reads.Learnt,
-  rehash-below t,
-  rehash.Post,
-) (rehash-at t) rehash.Post
+rehash-parent-of-requires : (t : ℕ) → rehash-lts.Need-parent-of-requires (callees t) (rehash-at t) rehash.Post
 rehash-parent-of-requires t c κs =
     let s = c .before .before .before .before .before .before .before .before in
     let a = s .args in
@@ -116,16 +75,7 @@ rehash-parent-of-requires t c κs =
       omega (arith, number-small (a .view) (length (a .image .now)) (staged (p .0) .rules) (a .i) (a .last) some (p .1) (p .3), p .2),
     )
 
-rehash-parent-of-requires-2 : (t : ℕ) → rehash-lts.Need-parent-of-requires-2 (
-  level-of-reads.Asked,
-  level-of-reads.Learnt,
-  enter-reads.Asked,
-  enter-reads.Learnt,
-  parent-of-reads.Asked,
-  parent-of-reads.Learnt,
-  rehash-below t,
-  rehash.Post,
-) (rehash-at t) rehash.Post
+rehash-parent-of-requires-2 : (t : ℕ) → rehash-lts.Need-parent-of-requires-2 (callees t) (rehash-at t) rehash.Post
 rehash-parent-of-requires-2 t c κs =
     let s = c .before .before .before .before .before .before .before .before .before in
     let a = s .args in
@@ -135,16 +85,7 @@ rehash-parent-of-requires-2 t c κs =
       omega (arith, number-small (a .view) (length (a .image .now)) (staged (p .0) .rules) (a .i) (a .last) some (p .1) (p .3), p .2),
     )
 
-rehash-rehash-requires : (t : ℕ) → rehash-lts.Need-rehash-requires (
-  level-of-reads.Asked,
-  level-of-reads.Learnt,
-  enter-reads.Asked,
-  enter-reads.Learnt,
-  parent-of-reads.Asked,
-  parent-of-reads.Learnt,
-  rehash-below t,
-  rehash.Post,
-) (rehash-at t) rehash.Post
+rehash-rehash-requires : (t : ℕ) → rehash-lts.Need-rehash-requires (callees t) (rehash-at t) rehash.Post
 rehash-rehash-requires t c κs =
     let s = c .before .before .before .before .before .before .before .before .before .before in
     let a = s .args in
@@ -161,61 +102,23 @@ rehash-rehash-requires t c κs =
       ),
     )
 
-rehash-same-length : (t : ℕ) → rehash-lts.Need-same-length (
-  level-of-reads.Asked,
-  level-of-reads.Learnt,
-  enter-reads.Asked,
-  enter-reads.Learnt,
-  parent-of-reads.Asked,
-  parent-of-reads.Learnt,
-  rehash-below t,
-  rehash.Post,
-) (rehash-at t) rehash.Post
+rehash-same-length : (t : ℕ) → rehash-lts.Need-same-length (callees t) (rehash-at t) rehash.Post
 rehash-same-length t c = search needs
 
-rehash-returns : (t : ℕ) → rehash-lts.Need-returns (
-  level-of-reads.Asked,
-  level-of-reads.Learnt,
-  enter-reads.Asked,
-  enter-reads.Learnt,
-  parent-of-reads.Asked,
-  parent-of-reads.Learnt,
-  rehash-below t,
-  rehash.Post,
-) (rehash-at t) rehash.Post
+rehash-returns : (t : ℕ) → rehash-lts.Need-returns (callees t) (rehash-at t) rehash.Post
 rehash-returns t c =
     let a = c .before .before .before .before .before .before .before .before .before .before .before .before .before .args in
     c .before .before .rehash .ensures
     ∙ rw (c .before .before .before .before .before .before .before .before .enter .ensures, c .before .before .before .parent-of2 .ensures, c .before .before .before .before .parent-of .ensures, c .before .before .before .before .before .before .before .before .before .before .level-of .ensures)
     (sym (rehash-step (a .view) (a .i) (a .first) (a .last) (a .image .now) (omega (arith, c .before .before .before .before .before .before .before .before .before .before .before .if1 .taken))))
 
-rehash-returns-2 : (t : ℕ) → rehash-lts.Need-returns-2 (
-  level-of-reads.Asked,
-  level-of-reads.Learnt,
-  enter-reads.Asked,
-  enter-reads.Learnt,
-  parent-of-reads.Asked,
-  parent-of-reads.Learnt,
-  rehash-below t,
-  rehash.Post,
-) (rehash-at t) rehash.Post
+rehash-returns-2 : (t : ℕ) → rehash-lts.Need-returns-2 (callees t) (rehash-at t) rehash.Post
 rehash-returns-2 t c =
     let a = c .before .before .args in
     sym (rehash-none (a .view) (a .i) (a .first) (a .last) (a .image .now) (omega (arith, c .if1 .left)))
 
 pub +rehash-spec : {M : Type 1} → statement M
-+rehash-spec = close μ-rehash λ t. rehash-lts.spec (
-  level-of-reads.Asked,
-  level-of-reads.Learnt,
-  enter-reads.Asked,
-  enter-reads.Learnt,
-  parent-of-reads.Asked,
-  parent-of-reads.Learnt,
-  rehash-below t,
-  rehash.Post,
-)
-    (rehash-at t)
-    rehash.Post
++rehash-spec = close μ-rehash λ t. rehash-lts.spec (callees t) (rehash-at t) rehash.Post
     (rehash-sub-level-of t)
     (rehash-level-of-requires t)
     (rehash-sub-enter t)
