@@ -8,7 +8,7 @@ use native.Mathlib.Omega.{arith}
 use native.Mathlib.Nat.{add-zero, zero-add, add-suc, suc-add, le-of-suc-le-suc, not-suc-le-zero}
 use lib.Dec.{T, eqb, eqb→eq, lit<}
 use lib.ListN.{length, getD}
-use Rattle.aes.specs.Field.{_•_, product, squares, inverse, Inverses, affineBit, affine, sbox, Substitutes}
+use Rattle.aes.specs.Field.{_•_, product, squares, inverse, Inverses, affine, sbox, Substitutes}
 use Rattle.aes.proofs.FieldLaws.{product-lt}
 
 -- ---- any table

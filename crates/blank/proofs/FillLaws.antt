@@ -1,5 +1,5 @@
 -- Stores one after another make the table, the header and the image. Assumes nothing.
-use Prim.Native.Nat.{ℕ, zero, suc, _+_, _-_, _*_, _≤_, _<_}
+use Prim.Native.Nat.{ℕ, zero, suc, _+_, _*_, _≤_, _<_}
 use mathlib.Core.Bool.{Bool, _||_}
 use mathlib.Core.Path.{_≡_, refl, sym, ap, ap₂, _∙_}
 use mathlib.Core.List.{List, [], _∷_, _++_}
@@ -147,10 +147,6 @@ any-offset x y size log = refl
 
 module _ (n : ℕ) (w : Sized n) where
   module _ (half a b c : ℕ) (eh : half ≡ halfPlace n) (ea : a ≡ h1 n) (eb : b ≡ h2 n) (ec : c ≡ h3 n) where
-    -- the places fit
-    pub small : (half ≡ 0x2000) × (a ≤ 0x40) × (b ≤ 0x400) × (c ≤ 0x20000)
-    small = (eh ∙ im.half-at n w, omega arith, omega arith, omega arith)
-
     pub room3 : (s : List ℕ) → s ≡ zeros (imageSize n) → half + (a + b) + 32 * n ≤ length s
     room3 s e = omega (arith, ap length e, length-replicate {A = ℕ} (imageSize n) 0, im.half-at n w)
 

@@ -1,5 +1,5 @@
 -- The whole image, and the call's answer. Assumes nothing.
-use Prim.Native.Nat.{ℕ, _+_, _-_, _≤_, _<_}
+use Prim.Native.Nat.{ℕ, _+_, _≤_, _<_}
 use mathlib.Core.Bool.{Bool, true, false, _||_}
 use mathlib.Core.Path.{_≡_, refl, sym, ap, ap₂, _∙_}
 use mathlib.Core.List.{List, _++_}
@@ -21,7 +21,7 @@ use Rattle.steps.specs.declared.Ending.{Ending}
 use Rattle.steps.specs.declared.Ending.the-variants.{Accepted, Refused, Dropped}
 use Rattle.blank.specs.Rules.{bytesFrom}
 use Rattle.blank.specs.Sizes.{blocksAllowed, h1, ivfc1, imageSize}
-use Rattle.blank.specs.Image.{zeros, byte1, master, pieces, table, header, headerWith, halfPlace, hashed, image}
+use Rattle.blank.specs.Image.{zeros, byte1, master, pieces, table, headerWith, halfPlace, hashed, image}
 use Rattle.blank.specs.Making.{blankLength, someZero, zeroTable, zeroDigest, suited, Made, made}
 use Rattle.blank.proofs.SizeLaws.{Sized}
 use Rattle.blank.proofs.ImageLaws as im

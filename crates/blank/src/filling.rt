@@ -14,7 +14,7 @@ use layout::Kind;
 use number::Level;
 use sha256::digest;
 ghost use mathlib.Core.Path.{_≡_};
-ghost use Prim.Native.Nat.{ℕ, _≤_};
+ghost use Prim.Native.Nat.{_≤_};
 ghost use Rattle.blank.specs.Sizes.{imageSize};
 ghost use Rattle.blank.specs.Image as spec;
 ghost use Rattle.blank.specs.Making.{zeroTable, zeroDigest};

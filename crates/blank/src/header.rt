@@ -8,7 +8,7 @@ use super::sizes::partition_size;
 use layout::Kind;
 use number::runs::copy_into;
 ghost use mathlib.Core.Path.{_≡_};
-ghost use Prim.Native.Nat.{ℕ, _+_, _≤_};
+ghost use Prim.Native.Nat.{_+_, _≤_};
 ghost use lib.ListN.{length};
 ghost use lib.Seq.{sets};
 ghost use Rattle.blank.specs.Image.{disaFields, diffFields, headerWith};

@@ -6,7 +6,6 @@ use layout::Kind;
 use layout::Refusal;
 use steps::Ending;
 ghost use mathlib.Core.Path.{_≡_};
-ghost use Prim.Native.Nat.{ℕ};
 ghost use lib.ListN.{length};
 ghost use Rattle.layout.specs.Refusals.{Answers};
 ghost use Rattle.steps.specs.Answers.{endingSays};

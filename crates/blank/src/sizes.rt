@@ -1,6 +1,6 @@
 // The sizes and places of a blank image for n blocks.
 ghost use mathlib.Core.Path.{_≡_};
-ghost use Prim.Native.Nat.{ℕ, _+_, _*_, _<_, _≤_, _^_};
+ghost use Prim.Native.Nat.{_+_, _*_, _<_, _≤_, _^_};
 ghost use Rattle.blank.specs.Sizes.{blocksAllowed, up, next, bitsFor, h1, h2, h3, place4, size1, size2, size3, place2, place3, partitionSize, imageSize};
 
 // n is from 1 to 4096.

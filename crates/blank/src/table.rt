@@ -12,7 +12,7 @@ use super::sizes::level4_place;
 use number::runs::copy_into;
 ghost use mathlib.Core.Path.{_≡_};
 ghost use mathlib.Core.List.{_++_};
-ghost use Prim.Native.Nat.{ℕ, _+_, _≤_};
+ghost use Prim.Native.Nat.{_+_, _≤_};
 ghost use lib.ListN.{length};
 ghost use lib.Seq.{sets};
 ghost use Rattle.blank.specs.Image.{difi, ivfc, dpfs, pieces};

@@ -14,7 +14,7 @@ use Rattle.number.specs.Fields.{le16, le32, le64}
 use Rattle.number.specs.Ranges.{part, inside, apart, fits, clear, placed, twice, levelRange}
 use Rattle.number.specs.Blocks.{blocks}
 use Rattle.number.specs.Bytes.{sameBytes}
-use Rattle.number.proofs.Tests.{and-both}
+use Rattle.number.proofs.Tests.{and-both, or-right}
 use Rattle.number.proofs.ListLaws.{same-refl}
 use Rattle.sha256.specs.Sha256.{sha256}
 use Rattle.sha256.proofs.Laws.{length-sha256}
@@ -41,7 +41,7 @@ use Rattle.blank.specs.Image.{zeros, master, difi, ivfc, dpfs, pieces, table, d
 use Rattle.blank_theorem.specs.Theorem.{headerOf, partition, container}
 use Rattle.blank.proofs.SizeLaws.{Sized}
 use Rattle.blank_theorem.proofs.FieldLaws.{eight-read}
-use Rattle.blank_theorem.proofs.RuleLaws.{every-of, or-right, placed-of, size-of, level-of}
+use Rattle.blank_theorem.proofs.RuleLaws.{every-of, placed-of, size-of, level-of}
 use Rattle.blank.proofs.ImageLaws as im
 
 module _ (n : ℕ) (w : Sized n) where

@@ -1,6 +1,6 @@
 -- Rules that hold pass their tests. Assumes nothing.
 use Prim.Native.Nat.{ℕ, _+_, _%_, _≤_}
-use mathlib.Core.Bool.{Bool, true, false, _&&_, _||_}
+use mathlib.Core.Bool.{Bool, true, _&&_}
 use mathlib.Core.List.{List, [], _∷_}
 use mathlib.Core.Logic.{inl, inr}
 use mathlib.Core.Path.{_≡_, refl}
@@ -9,7 +9,7 @@ use borrow.Author.Tests.{le-leb, eq-eqb}
 use Rattle.number.specs.declared.Range.{Range}
 use Rattle.number.specs.declared.Level.{Level}
 use Rattle.number.specs.Ranges.{inside, apart, Apart, fits, clear, placed}
-use Rattle.number.proofs.Tests.{and-both}
+use Rattle.number.proofs.Tests.{and-both, or-right}
 use Rattle.number.proofs.RangeLaws.{AllApart, Laid}
 use Rattle.layout.specs.Every.{onto, every}
 use Rattle.limits.specs.Limits.{mostLog, sizeAllowed, levelAllowed}
@@ -23,10 +23,6 @@ onto-of a (b ∷ rest) p (q, t) = onto-of (a && b) rest (and-both a b p q) t
 pub every-of : (rules : List Bool) → Truths rules → every rules ≡ true
 unfolding every
 every-of rules t = onto-of true rules refl t
-
-pub or-right : (a b : Bool) → b ≡ true → a || b ≡ true
-or-right true b e = refl
-or-right false b e = e
 
 apart-of : (a b : Range) → Apart a b → apart a b ≡ true
 unfolding apart inside

@@ -42,7 +42,7 @@ use Rattle.views.specs.Versions.{Version}
 use Rattle.history.specs.Model.{Call, Write, Accepted, Dropped, endingOf, Model, followed}
 use Rattle.history.specs.Run.{State, perform, ruled, after, events, begins, commits, lastValue}
 use Rattle.history.specs.External.{StartThere}
-use Rattle.history.specs.Theorem.{Has, Start, committedIn, Landed}
+use Rattle.history.specs.Theorem.{Start, committedIn, Landed}
 use Rattle.history.proofs.Calls.{call-laws}
 use Rattle.history.proofs.CallCases.{idle-rests}
 use Rattle.history.proofs.Following.{Tracks, Agrees, agrees-on, agrees-first}
@@ -53,6 +53,7 @@ use Rattle.blank.proofs.ImageLaws.{zeros-byte}
 use Rattle.blank_theorem.specs.Theorem.{headerOf, partition, container, Blank}
 use Rattle.blank_theorem.specs.Sessions.{fresh, Takes}
 use Rattle.blank_theorem.proofs.WholeLaws.{WholeModel, WholeStaged, Shows, shows, whole-of, followed-whole}
+use Rattle.layout.proofs.GuaranteeLaws.{one-container}
 
 -- ---- where every block passes, no call is refused for one
 
@@ -224,9 +225,6 @@ module _ (kind : Kind) (n : ℕ) (w : Blank kind n) where
 
   -- ---- after a commit
 
-  same-container : (s : List ℕ) (a b : Container) → opened s ≡ Valid a → opened s ≡ Valid b → a ≡ b
-  same-container s a b p q = cc
-
   back : (calls : List Call) → begins (events calls st) ≤ 1 → 0 < commits (events calls st) → (place : ℕ) (buffer : List ℕ) → place + length buffer ≤ 0x1000 * n
       → readCommitted (after calls st .image) 0 place buffer
       ≡ record { outcome = outcome.Accepted; buffer = bytes (λ (i : ℕ). Option·getD (lastValue 0 i (events calls st)) 0) place (length buffer) }
@@ -256,7 +254,7 @@ module _ (kind : Kind) (n : ℕ) (w : Blank kind n) where
 
       byte : (i : ℕ) → i < 0x1000 * n → contentOf (committedView d 0) s 4 i ≡ Option·getD (lastValue 0 i (events calls st)) 0
       byte i p =
-          ap (λ (x : Container). contentOf (committedView x 0) s 4 i) (same-container s d (landed .new .container) (g .has .opens) (landed .new .opens))
+          ap (λ (x : Container). contentOf (committedView x 0) s 4 i) (one-container s d (landed .new .container) (g .has .opens) (landed .new .opens))
           ∙ by (lastValue 0 i (events calls st)) refl
         where
           by : (o : Option ℕ) → lastValue 0 i (events calls st) ≡ o → contentOf (committedView (landed .new .container) 0) s 4 i ≡ Option·getD o 0

@@ -18,7 +18,8 @@ use Rattle.ivfc.proofs.EntryLaws.{entry-cong}
 use Rattle.ivfc.proofs.VerifiedLaws.{parent-inside}
 use Rattle.ivfc.proofs.DigestLaws.{length-digests, digest-at}
 use Rattle.blank.specs.Making.{someZero}
-use Rattle.blank_theorem.proofs.ZeroLaws.{vouches-own, none-zero}
+use Rattle.blank_theorem.proofs.ZeroLaws.{none-zero}
+use Rattle.update.proofs.EmptyLaws.{own-vouches}
 
 -- entry b of the digests of a level's blocks is the digest of block b
 pub own-entry : (l : Level) (f : ℕ → ℕ) (b : ℕ) → b < blocks l
@@ -45,7 +46,7 @@ module _ (levels : ℕ → Level) (content : ℕ → ℕ → ℕ) (rules : TreeR
   unfolding matches
   own-matches i b k h =
       ap (vouches (sha256 (block (levels (suc i)) (content (suc i)) b))) (own i b k h)
-      ∙ vouches-own (sha256 (block (levels (suc i)) (content (suc i)) b))
+      ∙ own-vouches (sha256 (block (levels (suc i)) (content (suc i)) b))
       (none-zero (levels (suc i)) (content (suc i)) (blocks (levels (suc i))) b (none i k) h)
 
   pub all-verified : (i b : ℕ) → i ≤ 4 → b < blocks (levels i) → verified levels content i b ≡ true

@@ -1,5 +1,5 @@
 -- What the committed view of a blank image reads. Assumes nothing.
-use Prim.Native.Nat.{ℕ, zero, suc, _+_, _-_, _%_, _^_, _≤_, _<_}
+use Prim.Native.Nat.{ℕ, zero, suc, _+_, _%_, _^_, _≤_, _<_}
 use mathlib.Core.Bool.{Bool, true, false}
 use mathlib.Core.Path.{_≡_, refl, ap, _∙_}
 use native.Mathlib.Omega.{arith}
@@ -11,7 +11,6 @@ use Rattle.number.specs.Blocks.{blocks, blockOf}
 use Rattle.layout.specs.declared.Kind.{Kind}
 use Rattle.layout.specs.Tables.{active}
 use Rattle.layout.proofs.GuaranteeLaws.{guarantees}
-use Rattle.dpfs.specs.declared.Tree.{Tree}
 use Rattle.dpfs.specs.Bits.{bitByte, bitPlace, testBit}
 use Rattle.dpfs.specs.Tree as dpfs
 use Rattle.dpfs.specs.Tree.{place, levelByte, select2, select3}

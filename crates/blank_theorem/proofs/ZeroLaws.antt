@@ -1,25 +1,18 @@
 -- Digests that are not all zero. Assumes nothing.
 use Prim.Native.Nat.{ℕ, zero, suc, _<_}
-use mathlib.Core.Bool.{Bool, true, false, not, _||_}
-use mathlib.Core.List.{List}
-use mathlib.Core.Path.{_≡_, ap}
+use mathlib.Core.Bool.{Bool, false, _||_}
+use mathlib.Core.Path.{_≡_}
 use native.Mathlib.Omega.{arith}
 use native.Mathlib.Decide.{decLt}
 use Rattle.number.specs.declared.Level.{Level}
 use Rattle.number.specs.Blocks.{blocks}
-use Rattle.number.proofs.Tests.{and-both, or-left-false, or-right-false}
-use Rattle.number.proofs.ListLaws.{same-refl}
+use Rattle.number.proofs.Tests.{or-left-false, or-right-false}
 use Rattle.sha256.specs.Sha256.{sha256}
 use Rattle.ivfc.specs.Blocks.{block}
-use Rattle.ivfc.specs.Verified.{zeroEntry, vouches}
+use Rattle.ivfc.specs.Verified.{zeroEntry}
 use Rattle.blank.specs.Sizes.{ivfc1, ivfc2, ivfc3, ivfc4}
 use Rattle.blank.specs.Image.{byte1, byte2, byte3, byte4, table}
 use Rattle.blank.specs.Making.{someZero, zeroHashes, zeroTable, zeroDigest}
-
--- a digest that is not all zero vouches for its block. This is the one place that the rule on entries of zeros enters
-pub vouches-own : (digest : List ℕ) → zeroEntry digest ≡ false → vouches digest digest ≡ true
-unfolding vouches
-vouches-own digest z = and-both _ _ (same-refl digest) (ap not z)
 
 pub none-zero : (l : Level) (f : ℕ → ℕ) (k b : ℕ) → someZero l f k ≡ false → b < k → zeroEntry (sha256 (block l f b)) ≡ false
 unfolding someZero

@@ -1,18 +1,17 @@
 -- The steps of AES-CMAC as the code takes them. Assumes nothing.
-use mathlib.Core.Path.{_≡_, refl, sym, ap, ap₂, _∙_}
+use mathlib.Core.Path.{_≡_, sym, ap, ap₂, _∙_}
 use mathlib.Core.Bool.{not, _&&_}
-use mathlib.Core.List.{List, _∷_, _++_, append-nil}
-use Prim.Native.Nat.{ℕ, suc, _+_, _-_, _*_, _/_, _%_, _^_, _<_, _≤_, min, max}
+use mathlib.Core.List.{List, _++_, append-nil}
+use Prim.Native.Nat.{ℕ, _+_, _-_, _*_, _/_, _%_, _^_, _<_, _≤_, min, max}
 use native.Mathlib.Omega.{arith}
-use native.Mathlib.Nat.{zero-add}
 use native.Mathlib.Numerals.{add-one}
 use native.Mathlib.Decide.{ℕ-discrete, decLt}
 use lib.Bits.{xor-zero-r}
 use borrow.Author.Tests.{eq-eqb, ne-eqb, le-leb, lt-leb}
 use lib.Dec.{eqb}
-use lib.ListN.{length, getD, set, take, drop, replicate, length-take, length-drop, length-replicate, replicate-append-replicate, List·getD-eq-default}
-use lib.Seq.{sets, sets-eq, set-at, drop-at}
-use Rattle.number.proofs.ListLaws.{part-rest, length-part}
+use lib.ListN.{length, getD, set, take, drop, replicate, length-take, length-drop, List·getD-eq-default}
+use lib.Seq.{sets}
+use Rattle.number.proofs.ListLaws.{part-rest, length-part, over-zeros, byte-over-zeros}
 use Rattle.aes.specs.Field.{_⊕_}
 use Rattle.aes.specs.Aes.{xor, aes128}
 use Rattle.cmac.specs.Cmac.{shifted, Zero, doubled, K1, padding, blocks, flag, blockOf, lastBlock, chained, cmac}
@@ -29,25 +28,12 @@ last-byte x h =
 
 -- ---- up to a block of bytes, and zeros after them
 
-zeros-left : (k : ℕ) → k ≤ 16 → _≡_ {A = List ℕ} (drop k Zero) (replicate (16 - k) 0)
-zeros-left k h =
-    let e : 16 ≡ k + (16 - k) = omega arith in
-    ap (λ (n : ℕ). drop k (replicate n 0)) e ∙ ap (drop k) (sym (replicate-append-replicate k (16 - k) 0))
-    ∙ drop-at (replicate k 0) (replicate (16 - k) 0) k (length-replicate k 0)
-
 pub fill-done : (t b : List ℕ) → length t ≤ 16 → b ≡ sets Zero 0 t → b ≡ t ++ replicate (16 - length t) 0
-fill-done t b h e =
-    e ∙ sets-eq t Zero 0 (omega arith) ∙ ap (λ (k : ℕ). t ++ drop k Zero) (zero-add (length t)) ∙ ap (λ (z : List ℕ). t ++ z) (zeros-left (length t) h)
-
--- a byte more, after the bytes p
-byte-more : (p : List ℕ) (i v : ℕ) → length p ≡ i → i < 16 → set (p ++ replicate (16 - i) 0) i v ≡ p ++ v ∷ replicate (15 - i) 0
-byte-more p i v l h =
-    let n : 16 - i ≡ suc (15 - i) = omega arith in
-    rw n (set-at p 0 (replicate (15 - i) 0) v i l)
+fill-done t b h e = e ∙ over-zeros 16 t h
 
 pub pad-done : (t b : List ℕ) → length t < 16 → b ≡ t ++ replicate (16 - length t) 0 → set b (length t) 0x80 ≡ padding t
 unfolding padding
-pad-done t b l e = rw e (byte-more t (length t) 0x80 refl l)
+pad-done t b l e = rw e (byte-over-zeros 16 t 0x80 l)
 
 pub fill-whole : (t b : List ℕ) → length t ≡ 16 → b ≡ t ++ replicate (16 - length t) 0 → b ≡ t
 fill-whole t b l e = rw l at e ∙ append-nil t

@@ -11,7 +11,7 @@ use sha256::digest;
 use signatures::sign;
 use signing::Signer;
 ghost use mathlib.Core.Path.{_≡_};
-ghost use Prim.Native.Nat.{ℕ, _+_, _≤_};
+ghost use Prim.Native.Nat.{_≤_};
 ghost use lib.ListN.{length};
 ghost use lib.Seq.{sets};
 ghost use Rattle.layout.specs.Headers.{headerRange, headerBytes};

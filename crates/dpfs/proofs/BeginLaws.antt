@@ -18,7 +18,6 @@ use Rattle.dpfs.specs.Staging.{begun}
 use Rattle.dpfs.specs.Rules.{WellPlaced}
 use Rattle.dpfs.proofs.BitLaws.{bit-same}
 use Rattle.dpfs.proofs.LevelLaws.{held1, held2, place-from, place-ends, places-apart, byte-same}
-use Rattle.dpfs.proofs.TreeLaws.{live-content}
 
 -- the other half of level 1 is free
 pub other-free : (tree : Tree) (image : List ℕ) (m : ℕ) → m < tree .level1 .size → FreeIn tree image (place (tree .level1) (not (tree .live)) 0 + m)
@@ -67,7 +66,3 @@ module _ (tree : Tree) (image : List ℕ) (w : WellPlaced tree (length image)) w
       (begun-select3 (blockOf (tree .level3) z) (held2 tree (length image) w z h))
       ∙ begun-out (place (tree .level3) (select3 tree image (tree .live) (blockOf (tree .level3) z)) z)
       (λ y k e. places-apart (tree .level1) (tree .level3) (w .apart13) _ _ y z k h (sym e))
-
-  -- which stays
-  pub begun-live : (z : ℕ) → z < tree .level3 .size → content tree (begun tree image) (tree .live) z ≡ content tree image (tree .live) z
-  begun-live = live-content tree (length image) w image (begun tree image) begun-keeps

@@ -3,16 +3,14 @@ use mathlib.Core.Path.{_≡_, refl, sym, ap, _∙_}
 use mathlib.Core.Bool.{not}
 use mathlib.Core.List.{List}
 use mathlib.Core.Logic.{_≢_}
-use Prim.Native.Nat.{ℕ, zero, suc, _+_, _-_, _*_, _/_, _%_, _^_, _≤_, _<_}
+use Prim.Native.Nat.{ℕ, zero, suc, _+_, _-_, _*_, _/_, _%_, _^_, _<_}
 use native.Mathlib.Omega.{arith}
-use native.Mathlib.Nat.{div-eq-of-lt, mod-lt, mul-mod-left, div-self, one-mul, div-div-eq-div-mul, add-zero, mul-assoc, add-mul-div-left}
+use native.Mathlib.Nat.{div-eq-of-lt, mod-lt, mul-mod-left, div-self, one-mul, add-zero, mul-assoc, add-mul-div-left}
 use native.Mathlib.Decide.{decLt}
 use lib.Dec.{eqb}
 use lib.Pow.{pow-lt, pow-add, pow-pos, shl-shr, shl-exact, shr-shr}
 use lib.ListN.{getD}
 use lib.Bits.{bitXor, xor-shr, xor-mod, xor-zero-r}
-use Rattle.number.specs.declared.Level.{Level}
-use Rattle.number.specs.Blocks.{blockSize, blockOf}
 use Rattle.dpfs.specs.Bits.{bitByte, bitPlace, testBit, flipBit, wordOf, bitOf}
 
 -- ---- places
@@ -41,22 +39,6 @@ places-differ m n h e p =
     h (digits m
     ∙ same-digits (m / 32) (m % 32 / 8) (m % 8) (n / 32) (n % 32 / 8) (n % 8) p4 q4 (mod-lt m (omega arith)) (mod-lt n (omega arith)) e p
     ∙ sym (digits n))
-
--- the block that holds bit n is that of byte n / 8, though the bit stands in another byte of its word
-quarter : (n : ℕ) → bitByte n / 4 ≡ n / 8 / 4
-unfolding bitByte
-quarter n = omega arith
-
-pub bit-block : (l : Level) (n : ℕ) → 2 ≤ l .log → blockOf l (bitByte n) ≡ blockOf l (n / 8)
-unfolding blockOf blockSize
-bit-block l n h =
-    let e : l .log ≡ 2 + (l .log - 2) = omega arith in
-    let p : 2 ^ l .log ≡ 4 * 2 ^ (l .log - 2) = ap (λ (m : ℕ). 2 ^ m) e ∙ pow-add 2 2 (l .log - 2) in
-    ap (λ (m : ℕ). bitByte n / m) p
-    ∙ sym (div-div-eq-div-mul (bitByte n) 4 (2 ^ (l .log - 2)))
-    ∙ ap (λ (m : ℕ). m / 2 ^ (l .log - 2)) (quarter n)
-    ∙ div-div-eq-div-mul (n / 8) 4 (2 ^ (l .log - 2))
-    ∙ ap (λ (m : ℕ). n / 8 / m) (sym p)
 
 -- ---- bit n is bit 31 - n mod 32 of word n / 32
 

@@ -7,4 +7,3 @@ pub mod TreeLaws
 pub mod PutLaws
 pub mod BeginLaws
 pub mod SpaceLaws
-pub mod Examples

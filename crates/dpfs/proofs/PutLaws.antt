@@ -23,7 +23,7 @@ use Rattle.dpfs.specs.Rules.{WellPlaced}
 use Rattle.dpfs.proofs.BitLaws.{bit-same}
 use Rattle.dpfs.proofs.LevelLaws.{held1, held2, place-suc, place-inj, place-inside, places-apart, byte-same}
 use Rattle.dpfs.proofs.SpareLaws.{still-placed}
-use Rattle.dpfs.proofs.TreeLaws.{live-content, free-kept, moved3-keeps, moved3-content, moved3-off2, moved3-off3, moved3-stays, moved3-twice}
+use Rattle.dpfs.proofs.TreeLaws.{free-kept, moved3-keeps, moved3-content, moved3-off2, moved3-off3, moved3-stays, moved3-twice}
 
 -- ---- a byte stored in the staged copy of a block that is moved
 
@@ -161,10 +161,6 @@ module _ (tree : Tree) (x : ℕ) (values image : List ℕ) (w : WellPlaced tree 
   put-staged z l =
       overlay-is (content tree (put tree x values image) (not (tree .live))) (content tree image (not (tree .live))) x values z
       (put-in tree x values image w h) (put-out tree x values image w h z l)
-
-  -- the live one stays
-  pub put-live : (z : ℕ) → z < tree .level3 .size → content tree (put tree x values image) (tree .live) z ≡ content tree image (tree .live) z
-  put-live = live-content tree (length image) w image (put tree x values image) (put-keeps tree x values image w h)
 
 -- ---- a run within one block: one move, then plain stores
 

@@ -13,14 +13,13 @@ use Rattle.number.specs.Frame.{Keeps}
 use Rattle.number.proofs.FrameLaws.{keeps-trans, keeps-more}
 use Rattle.dpfs.specs.declared.Tree.{Tree}
 use Rattle.dpfs.specs.declared.Space.{Space}
-use Rattle.dpfs.specs.Bits.{bitByte}
-use Rattle.dpfs.specs.Tree.{place, select2, select3, content}
+use Rattle.dpfs.specs.Tree.{place, content}
 use Rattle.dpfs.specs.Free.{InRange, FreeIn, Free}
 use Rattle.dpfs.specs.Staging.{begun, put}
 use Rattle.dpfs.specs.Rules.{WellPlaced, Aside, Beyond, BeyondAll, SpaceRules, Among}
 use Rattle.dpfs.proofs.PutLaws.{put-keeps}
 use Rattle.dpfs.proofs.BeginLaws.{begun-keeps}
-use Rattle.dpfs.proofs.SpareLaws.{Spares, spares-or, free-spares, spared-select2, spared-select3, spared-content, spared-free, Avoids, avoids-spares, avoided-content, aside-swap, aside-avoids}
+use Rattle.dpfs.proofs.SpareLaws.{Spares, spares-or, free-spares, spared-content, spared-free, Avoids, avoids-spares, avoided-content, aside-swap, aside-avoids}
 
 -- ---- a tree of the space
 
@@ -31,7 +30,7 @@ beyond r l (inr h) true y k f = omega arith
 beyond r l (inl h) false y k f = omega arith
 beyond r l (inr h) false y k f = omega arith
 
-beyond-avoids : (r : Range) (tree : Tree) → BeyondAll r tree → Avoids (InRange r) tree
+pub beyond-avoids : (r : Range) (tree : Tree) → BeyondAll r tree → Avoids (InRange r) tree
 beyond-avoids r tree b = record {
   level1 = beyond r (tree .level1) (b .level1);
   level2 = beyond r (tree .level2) (b .level2);
@@ -103,12 +102,6 @@ module _ (space : Space) (tree : Tree) (image : List ℕ) (r : SpaceRules space 
 
 module _ (space : Space) (n : ℕ) (r : SpaceRules space n) (image after : List ℕ) (k : Keeps (Free space image) image after) where
   module _ (tree : Tree) (m : Among tree space) where
-    pub kept-select2 : (j : ℕ) → bitByte j < tree .level1 .size → select2 tree after (tree .live) j ≡ select2 tree image (tree .live) j
-    kept-select2 = spared-select2 tree n (among-placed space n r tree m) (Free space image) image after (space-spares space n r tree m image) k
-
-    pub kept-select3 : (b : ℕ) → bitByte b < tree .level2 .size → select3 tree after (tree .live) b ≡ select3 tree image (tree .live) b
-    kept-select3 = spared-select3 tree n (among-placed space n r tree m) (Free space image) image after (space-spares space n r tree m image) k
-
     pub kept-content : (z : ℕ) → z < tree .level3 .size → content tree after (tree .live) z ≡ content tree image (tree .live) z
     kept-content = spared-content tree n (among-placed space n r tree m) (Free space image) image after (space-spares space n r tree m image) k
 

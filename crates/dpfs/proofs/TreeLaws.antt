@@ -17,7 +17,7 @@ use Rattle.dpfs.specs.Rules.{WellPlaced}
 use Rattle.dpfs.proofs.BitLaws.{bit-same}
 use Rattle.dpfs.proofs.LevelLaws.{held1, held2, elsewhere, byte-same}
 use Rattle.dpfs.proofs.MoveLaws.{Moved, moved-is, moved-stays}
-use Rattle.dpfs.proofs.SpareLaws.{still-placed, free-spares, spared-select2, spared-select3, spared-content, spared-free}
+use Rattle.dpfs.proofs.SpareLaws.{still-placed, free-spares, spared-select2, spared-select3, spared-free}
 
 -- ---- changes at free places of the tree
 
@@ -27,9 +27,6 @@ module _ (tree : Tree) (n : ℕ) (w : WellPlaced tree n) (image after : List ℕ
 
   pub live-select3 : (b : ℕ) → bitByte b < tree .level2 .size → select3 tree after (tree .live) b ≡ select3 tree image (tree .live) b
   live-select3 = spared-select3 tree n w (FreeIn tree image) image after (free-spares tree n w image) k
-
-  pub live-content : (z : ℕ) → z < tree .level3 .size → content tree after (tree .live) z ≡ content tree image (tree .live) z
-  live-content = spared-content tree n w (FreeIn tree image) image after (free-spares tree n w image) k
 
   pub free-kept : (i : ℕ) → FreeIn tree after i ↔ FreeIn tree image i
   free-kept = spared-free tree n w (FreeIn tree image) image after (free-spares tree n w image) k
@@ -178,8 +175,3 @@ pub moved3-twice : (tree : Tree) (b : ℕ) (image : List ℕ) → WellPlaced tre
 moved3-twice tree b image w h = moved3-stays tree b (moved3 tree b image) (moved3-off2 tree b image w h) (moved3-off3 tree b image w h)
 
 -- ---- what is seen from a half does not depend on which half is live
-
-pub turned-content : (tree : Tree) (live half : Bool) (image : List ℕ) (z : ℕ)
-    → content (record { level1 = tree .level1; level2 = tree .level2; level3 = tree .level3; live = live }) image half z ≡ content tree image half z
-unfolding content select3 select2
-turned-content tree live half image z = refl

@@ -6,7 +6,7 @@ use number::blocks::block_size;
 use number::blocks::lesser;
 ghost use mathlib.Core.Path.{_≡_};
 ghost use mathlib.Core.Bool.{cond};
-ghost use Prim.Native.Nat.{ℕ, _+_, _-_, _≤_, _<_};
+ghost use Prim.Native.Nat.{_+_, _-_, _≤_, _<_};
 ghost use lib.ListN.{length, take, drop};
 ghost use Rattle.number.specs.Bytes.{bytes};
 ghost use Rattle.number.specs.Blocks.{blockOf};

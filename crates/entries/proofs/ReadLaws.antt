@@ -5,12 +5,12 @@ use mathlib.Core.List.{List}
 use Prim.Native.Nat.{ℕ, suc, _+_, _-_, _/_, _^_, _≤_, _<_}
 use native.Mathlib.Omega.{arith}
 use native.Mathlib.Numerals.{add-one}
-use lib.ListN.{length, getD}
+use lib.ListN.{getD}
 use Rattle.number.specs.declared.Level.{Level}
 use Rattle.number.specs.Blocks.{blocks, blockOf, blockSize}
 use Rattle.number.specs.Bytes.{bytes}
 use Rattle.number.specs.Fields.{le16, le32}
-use Rattle.number.proofs.ListLaws.{length-bytes, getD-bytes, bytes-cong, bytes-inner}
+use Rattle.number.proofs.ListLaws.{getD-bytes, bytes-cong, bytes-inner}
 use Rattle.number.proofs.BlockLaws.{block-mono, block-exists}
 use Rattle.ivfc.specs.declared.View.{View}
 use Rattle.ivfc.specs.Rules.{ViewRules}
@@ -18,13 +18,13 @@ use Rattle.ivfc.specs.Verified.{firstNot}
 use Rattle.ivfc.specs.Views.{levelOf, contentOf}
 use Rattle.ivfc.specs.Views as ivfc
 use Rattle.ivfc.proofs.LowestLaws.{first-cong}
-use Rattle.ivfc.proofs.ViewLaws.{level-small, block-small}
+use Rattle.ivfc.proofs.ViewLaws.{block-small}
 use Rattle.views.specs.Versions.{versionOf}
-use Rattle.views.proofs.FlagLaws.{getD-flags}
 use Rattle.names.specs.declared.Reach.the-variants as reach
 use Rattle.names.specs.Entries.{verified, readAt}
 use Rattle.names.specs.Opening.{headerOf}
 use Rattle.names.proofs.EntryLaws.{read-yes, read-no}
+use Rattle.views.proofs.VersionLaws.{version-byte, version-flag}
 
 -- ---- level 4
 
@@ -32,32 +32,15 @@ pub level4-is : (view : View) → levelOf view 4 ≡ view .level4
 unfolding levelOf
 level4-is view = refl
 
-pub size-small : (view : View) (n : ℕ) → ViewRules view n → view .level4 .size ≤ 0x4000000
-size-small view n r = rw (← level4-is view) (level-small view n r 4 (omega arith))
-
-pub log-small : (view : View) (n : ℕ) → ViewRules view n → view .level4 .log ≤ 16
-log-small view n r = rw (← level4-is view) (r .hash .logs 4 (omega arith) .1)
-
 pub block4-small : (view : View) (n b : ℕ) → ViewRules view n → b < blocks (view .level4) → b < 0x4000000
 block4-small view n b r h = block-small view n r 4 b (omega arith) (rw (level4-is view) h)
 
 -- ---- its bytes
 
--- a byte of the version
-byte-at : (view : View) (image : List ℕ) (y : ℕ) → y < view .level4 .size → getD (versionOf view image .bytes) y 0 ≡ contentOf view image 4 y
-unfolding versionOf
-byte-at view image y h =
-    let z : 0 + y ≡ y = omega arith in
-    getD-bytes (contentOf view image 4) 0 (view .level4 .size) y h ∙ ap (contentOf view image 4) z
-
-pub length-level4 : (view : View) (image : List ℕ) → length (versionOf view image .bytes) ≡ view .level4 .size
-unfolding versionOf
-length-level4 view image = length-bytes (contentOf view image 4) 0 (view .level4 .size)
-
 -- the bytes that were gathered
 pub bytes-at : (view : View) (image : List ℕ) (at n : ℕ) → at + n ≤ view .level4 .size
     → bytes (contentOf view image 4) at n ≡ bytes (λ (y : ℕ). getD (versionOf view image .bytes) y 0) at n
-bytes-at view image at n h = bytes-cong _ _ at at n (λ k l. sym (byte-at view image (at + k) (omega arith)))
+bytes-at view image at n h = bytes-cong _ _ at at n (λ k l. sym (version-byte view image (at + k) (omega arith)))
 
 -- the word of four gathered bytes
 pub word-is : (view : View) (image word : List ℕ) (at : ℕ) → at + 4 ≤ view .level4 .size → word ≡ bytes (contentOf view image 4) at 4
@@ -65,7 +48,7 @@ pub word-is : (view : View) (image word : List ℕ) (at : ℕ) → at + 4 ≤ vi
 unfolding le32 le16
 word-is view image word at h e =
     let here : (k : ℕ) → k < 4 → getD word k 0 ≡ getD (versionOf view image .bytes) (at + k) 0 =
-    (λ k l. ap (λ (w : List ℕ). getD w k 0) e ∙ getD-bytes (contentOf view image 4) at 4 k l ∙ sym (byte-at view image (at + k) (omega arith))) in
+    (λ k l. ap (λ (w : List ℕ). getD w k 0) e ∙ getD-bytes (contentOf view image 4) at 4 k l ∙ sym (version-byte view image (at + k) (omega arith))) in
     let a : at + 0 ≡ at = omega arith in
     let b : at + 3 ≡ at + 2 + 1 = omega arith in
     let p = here 0 (omega arith) ∙ ap (λ (y : ℕ). getD (versionOf view image .bytes) y 0) a in
@@ -77,10 +60,8 @@ word-is view image word at h e =
 -- ---- which of its blocks are verified
 
 vouched-at : (view : View) (image : List ℕ) (b : ℕ) → b < blocks (view .level4) → ivfc.verified view image 4 b ≡ verified (versionOf view image .verified) b
-unfolding versionOf verified
-vouched-at view image b h =
-    let z : 0 + b ≡ b = omega arith in
-    sym (getD-flags (ivfc.verified view image 4) 0 (blocks (view .level4)) b h ∙ ap (ivfc.verified view image 4) z)
+unfolding verified
+vouched-at view image b h = sym (version-flag view image b h)
 
 -- the first of some blocks that is not verified
 pub first-is : (view : View) (image : List ℕ) (first last : ℕ) → first ≤ last → last < blocks (view .level4)

@@ -9,7 +9,7 @@ use number::blocks::block_of;
 use number::fields::field4;
 ghost use mathlib.Core.Path.{_≡_};
 ghost use mathlib.Core.List.{_++_};
-ghost use Prim.Native.Nat.{ℕ, suc, _+_, _-_, _≤_, _<_};
+ghost use Prim.Native.Nat.{suc, _+_, _-_, _≤_, _<_};
 ghost use lib.ListN.{length, getD};
 ghost use Rattle.number.specs.Blocks.{blocks};
 ghost use Rattle.number.specs.Bytes.{bytes};

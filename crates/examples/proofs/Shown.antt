@@ -8,9 +8,9 @@ use native.Mathlib.Omega.{arith}
 use native.Mathlib.Nat.{add-zero}
 use borrow.Author.Tests.{le-ltb}
 use lib.Dec.{leb}
-use lib.ListN.{length, replicate, getD, take, drop}
+use lib.ListN.{length, replicate, getD}
 use Rattle.number.specs.declared.Level.{Level}
-use Rattle.number.specs.Blocks.{blockSize, blocks, blockOf, blockLength, lastBlock}
+use Rattle.number.specs.Blocks.{blockSize, blocks, blockOf, blockLength}
 use Rattle.number.specs.Bytes.{bytes}
 use Rattle.number.specs.Fields.{le16, le32}
 use Rattle.number.specs.Ranges.{part}

@@ -3,14 +3,13 @@ use mathlib.Core.Path.{_≡_}
 use mathlib.Core.Logic.{_≢_}
 use mathlib.Core.Bool.{true}
 use mathlib.Core.List.{List, [], _∷_}
-use Prim.Native.Nat.{ℕ, _+_, _-_, _*_, _^_}
-use lib.ListN.{replicate, getD}
+use Prim.Native.Nat.{ℕ, _-_, _^_}
+use lib.ListN.{replicate}
 use Rattle.number.specs.declared.Level.{Level}
 use Rattle.number.specs.Blocks.{blocks, blockOf}
 use Rattle.number.specs.Bytes.{bytes}
 use Rattle.number.specs.Ranges.{part}
 use Rattle.layout.specs.declared.JudgedHeader.the-variants.{BadHeader}
-use Rattle.layout.specs.declared.Refusal.{Refusal}
 use Rattle.layout.specs.declared.Refusal.the-variants.{Selection, Placement, OutOfRange}
 use Rattle.layout.specs.Refusals.{number}
 use Rattle.layout.specs.declared.JudgedPartition.the-variants.{BadPartition}

@@ -6,8 +6,6 @@ use mathlib.Core.List.{List}
 use Prim.Native.Nat.{ℕ, zero, suc, _+_, _-_, _≤_, _<_}
 use native.Mathlib.Omega.{arith}
 use native.Mathlib.Decide.{decLt}
-use lib.Dec.{eqb}
-use lib.ListN.{length}
 use borrow.Author.Tests.{ne-eqb}
 use Rattle.number.specs.Blocks.{blocks}
 use Rattle.number.specs.Marks.{marked}
@@ -15,7 +13,7 @@ use Rattle.layout.specs.declared.Container.{Container}
 use Rattle.ivfc.specs.declared.View.{View}
 use Rattle.ivfc.specs.Verified as tree
 use Rattle.ivfc.specs.Views.{levelOf, verified}
-use Rattle.views.specs.Places.{partitions, committedView}
+use Rattle.views.specs.Places.{committedView}
 use Rattle.faults.specs.Marking.{blocksIn, blocksBefore, partitionsBefore, numberOf, Free, Sets, upperMarked, Awaits, Judges, Marked}
 
 -- ---- the levels of a view

@@ -1,15 +1,14 @@
 -- There is a mark for each block of an image that opens. Each block has an entry in the level above, and the hash levels lie apart in DPFS level 3, of
 -- which the image has two halves. Assumes nothing.
-use mathlib.Core.Path.{_≡_, refl, sym, ap, _∙_}
-use mathlib.Core.Bool.{Bool, true, false, _&&_}
+use mathlib.Core.Path.{_≡_, refl, sym, ap}
+use mathlib.Core.Bool.{true, _&&_}
 use mathlib.Core.Logic.{_⊎_, inl, inr}
 use mathlib.Core.List.{List}
-use Prim.Native.Nat.{ℕ, zero, suc, _+_, _*_, _%_, _≤_, _<_}
+use Prim.Native.Nat.{ℕ, _+_, _*_, _%_, _≤_, _<_}
 use native.Mathlib.Omega.{arith}
 use lib.Dec.{leb, eqb}
 use lib.ListN.{length}
 use borrow.Author.Tests.{leb-true, eq-eqb}
-use Rattle.number.specs.Blocks.{blocks}
 use Rattle.number.proofs.Tests.{and-left, and-right}
 use Rattle.limits.specs.Limits.{masterAllowed}
 use Rattle.layout.specs.declared.Container.{Container}
@@ -23,7 +22,7 @@ use Rattle.ivfc.specs.declared.View.{View}
 use Rattle.ivfc.specs.Views.{levelOf}
 use Rattle.ivfc.specs.Rules.{ViewRules, LevelsApart}
 use Rattle.views.specs.Places.{partitions, treeOf, viewIn, masterIn, committedView, spaceOf}
-use Rattle.views.proofs.PlaceLaws.{Present, present, committed-rules, committed-apart, tree-rules, space-rules}
+use Rattle.views.proofs.PlaceLaws.{present, committed-rules, committed-apart, tree-rules, space-rules}
 use Rattle.views.proofs.FitLaws.{places-fit}
 use Rattle.faults.specs.Marking.{blocksBefore, partitionsBefore, mostBlocks, Searchable, SearchableIn}
 

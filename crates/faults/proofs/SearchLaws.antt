@@ -1,13 +1,12 @@
 -- The search goes on from place to place. Assumes nothing.
 use mathlib.Core.Path.{_≡_, refl, sym, ap, _∙_}
-use mathlib.Core.Bool.{Bool, true, false, not, cond, true≢false}
+use mathlib.Core.Bool.{Bool, true, false, cond, true≢false}
 use mathlib.Core.List.{List, [], _∷_, _++_, append-assoc}
-use mathlib.Core.Logic.{_⊎_, inl, inr}
 use Prim.Native.Nat.{ℕ, zero, suc, _+_, _-_, _*_, _^_, _≤_, _<_}
 use native.Mathlib.Omega.{arith}
 use lib.Dec.{ltb}
 use lib.ListN.{length, length-append}
-use borrow.Author.Tests.{ltb-true, ltb-false, lt-ltb, le-ltb}
+use borrow.Author.Tests.{lt-ltb, le-ltb}
 use native.Mathlib.Decide.{decLt}
 use Rattle.layout.specs.declared.Container.{Container}
 use Rattle.number.specs.Marks.{marked}
@@ -19,7 +18,7 @@ use Rattle.faults.specs.declared.Place.{Place}
 use Rattle.faults.specs.declared.Found.{Found}
 use Rattle.faults.specs.Faults.{blocksFrom, levelsFrom, partitionsFrom, allBlocks, kept}
 use Rattle.faults.specs.Marking.{blocksIn, numberOf, mostBlocks, isUnmarked, Searchable}
-use Rattle.faults.specs.Searching.{blocksLeft, leftIn, Placed, ahead, afterLevel, Passes, Finds, rank, countWith}
+use Rattle.faults.specs.Searching.{blocksLeft, leftIn, Placed, ahead, afterLevel, Passes, Finds, countWith}
 use Rattle.faults.proofs.ListLaws.{at, kept-append, kept-hit, kept-miss, kept-none, kept-short}
 use Rattle.faults.proofs.NumberLaws.{number-below, number-add, number-level, number-partition}
 use Rattle.faults.proofs.UnderLaws.{first-from}

@@ -16,7 +16,6 @@ use Rattle.layout.specs.declared.Refusal.{Refusal}
 use Rattle.layout.specs.declared.Opened.{Opened}
 use Rattle.layout.specs.declared.Opened.the-variants as opening
 use Rattle.views.specs.Places.{partitions}
-use Rattle.steps.specs.declared.Count.{Count}
 use Rattle.steps.specs.declared.Count.the-variants as count
 use Rattle.faults.specs.declared.Fault.{Fault}
 use Rattle.faults.specs.declared.Place.{Place}

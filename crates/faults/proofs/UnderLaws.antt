@@ -1,9 +1,9 @@
 -- Which blocks stand below marked ones, and what judging them leaves. Assumes nothing.
 use mathlib.Core.Path.{_≡_, refl, sym, ap, _∙_}
 use mathlib.Core.Bool.{Bool, true, false, cond}
-use mathlib.Core.Logic.{inl, inr}
+use mathlib.Core.Logic.{inl}
 use mathlib.Core.List.{List}
-use Prim.Native.Nat.{ℕ, zero, suc, _+_, _-_, _*_, _^_, _≤_, _<_, min, max}
+use Prim.Native.Nat.{ℕ, zero, suc, _+_, _-_, _^_, _≤_, _<_, min, max}
 use native.Mathlib.Omega.{arith}
 use native.Mathlib.Nat.{mul-le-mul-left}
 use native.Mathlib.Decide.{decLt, ℕ-discrete}
@@ -24,7 +24,7 @@ use Rattle.ivfc.proofs.EntryLaws.{parent-mono, parent-below}
 use Rattle.ivfc.proofs.LowestLaws.{Lowest, first-lowest, lowest-one, lowest-under}
 use Rattle.ivfc.proofs.RowLaws.{first-to, first-shift}
 use Rattle.ivfc.proofs.VerifiedLaws.{verified-below, verified-under, parent-above}
-use Rattle.faults.specs.Marking.{mostBlocks, Free, Sets, upperMarked, Awaits}
+use Rattle.faults.specs.Marking.{Sets, upperMarked, Awaits}
 use Rattle.faults.proofs.SetLaws.{sets-false, sets-join, sets-same, sets-free}
 
 -- ---- the first number at which a test fails

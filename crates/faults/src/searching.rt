@@ -9,7 +9,7 @@ use ivfc::gathering::level_of;
 use layout::Container;
 use number::blocks::block_count;
 ghost use mathlib.Core.Path.{_≡_};
-ghost use Prim.Native.Nat.{ℕ, _+_, _^_, _<_};
+ghost use Prim.Native.Nat.{_+_, _^_, _<_};
 ghost use lib.ListN.{length};
 ghost use Rattle.views.specs.Places.{partitions};
 ghost use Rattle.views.specs.Rules.{PlacesFit};

@@ -10,8 +10,7 @@ use lib.ListN.{length, getD}
 use lib.Dec.{eqb}
 use borrow.Author.Tests.{eq-eqb}
 use Rattle.number.specs.Frame.{Keeps}
-use Rattle.number.proofs.FrameLaws.{keeps-sets, keeps-trans}
-use Rattle.number.proofs.ListLaws.{sets-in}
+use Rattle.number.proofs.FrameLaws.{keeps-trans}
 use Rattle.layout.specs.declared.Container.{Container}
 use Rattle.layout.specs.declared.Opened.the-variants as opening
 use Rattle.layout.specs.Tables.{active, inactive}
@@ -32,35 +31,22 @@ use Rattle.history.specs.Former.{Left}
 use Rattle.history.proofs.CallLaws.{BeginLaws}
 use Rattle.history.proofs.Seen.{SameSeen, same-version}
 use Rattle.history.proofs.Frames.{outside-stays, staged-stays}
-use Rattle.history.proofs.Tables.{below-all, byte-of, place-of, two-there, trees-apart, off-selectors, staged-length, staged-other}
+use Rattle.history.proofs.Tables.{byte-of, place-of, two-there, trees-apart, off-selectors, staged-other, in-table}
+use Rattle.steps.proofs.BelowLaws.{below-all}
+use Rattle.steps.proofs.BeginLaws.{table-only, table-byte}
 
 module _ (image : List ℕ) (c : Container) (g : Guarantees image c) where
   -- ---- the table
 
-  table-only : Keeps (InRange (inactive (c .header))) image (tableBegun c image)
-  unfolding tableBegun
-  table-only =
-      let n = staged-length image c g in
-      let t = inactive-table image c g .size in
-      keeps-sets (InRange (inactive (c .header))) image (inactive (c .header) .offset) (stagedTable c image) (λ i h. (omega arith, omega arith))
-
   table-left : Left c image (tableBegun c image)
   unfolding spaceOf
-  table-left = table-keeps (spaceOf c) image (tableBegun c image) table-only
-
-  table-byte : (i : ℕ) → i < inactive (c .header) .size → getD (tableBegun c image) (inactive (c .header) .offset + i) 0 ≡ getD (stagedTable c image) i 0
-  unfolding tableBegun
-  table-byte i h =
-      let n = staged-length image c g in
-      let t = inactive-table image c g .size in
-      let e = inactive-table image c g .inside in
-      sets-in image (inactive (c .header) .offset) (stagedTable c image) i (omega arith) (omega arith)
+  table-left = table-keeps (spaceOf c) image (tableBegun c image) (table-only image c g)
 
   table-content-of : (q : ℕ) → q < partitions c → (half : Bool) (z : ℕ) → z < treeOf c q .level3 .size
       → content (treeOf c q) (tableBegun c image) half z ≡ content (treeOf c q) image half z
   unfolding spaceOf
   table-content-of q h half z l =
-      table-content (spaceOf c) (length image) (space-rules image c g) (treeOf c q) (tree-among image c g q h) image (tableBegun c image) table-only half z l
+      table-content (spaceOf c) (length image) (space-rules image c g) (treeOf c q) (tree-among image c g q h) image (tableBegun c image) (table-only image c g) half z l
 
   -- ---- one tree
 
@@ -108,9 +94,6 @@ module _ (image : List ℕ) (c : Container) (g : Guarantees image c) where
   some : 0 < partitions c
   some = first-there (length image) (c .header) (g .header)
 
-  in-table : (i : ℕ) → i < inactive (c .header) .size → InRange (inactive (c .header)) (inactive (c .header) .offset + i)
-  in-table i h = (omega arith, omega arith)
-
   abbrev one : List ℕ
   one = begun (treeOf c 0) (tableBegun c image)
 
@@ -118,7 +101,7 @@ module _ (image : List ℕ) (c : Container) (g : Guarantees image c) where
   one-left = step-left (tableBegun c image) table-left 0 some
 
   one-table : (i : ℕ) → i < inactive (c .header) .size → getD one (inactive (c .header) .offset + i) 0 ≡ getD (stagedTable c image) i 0
-  one-table i h = step-table (tableBegun c image) table-left 0 some (inactive (c .header) .offset + i) (in-table i h) ∙ table-byte i h
+  one-table i h = step-table (tableBegun c image) table-left 0 some (inactive (c .header) .offset + i) (in-table c i h) ∙ table-byte image c g i h
 
   one-staged : (z : ℕ) → z < treeOf c 0 .level3 .size → content (treeOf c 0) one (not (treeOf c 0 .live)) z ≡ content (treeOf c 0) image (treeOf c 0 .live) z
   one-staged z l = step-staged (tableBegun c image) table-left 0 some z l ∙ table-content-of 0 some (treeOf c 0 .live) z l
@@ -134,7 +117,7 @@ module _ (image : List ℕ) (c : Container) (g : Guarantees image c) where
   ready-two : eqb (partitions c) 2 ≡ true → Ready (begun (treeOf c 1) one)
   ready-two e = record {
     stores = step-left one one-left 1 (two-there image c g e);
-    table = λ i h. step-table one one-left 1 (two-there image c g e) (inactive (c .header) .offset + i) (in-table i h) ∙ one-table i h;
+    table = λ i h. step-table one one-left 1 (two-there image c g e) (inactive (c .header) .offset + i) (in-table c i h) ∙ one-table i h;
     staged = by;
   }
     where

@@ -30,7 +30,6 @@ use Rattle.save.specs.declared.Sought.the-variants as sought
 use Rattle.save.specs.Calls.{listNames, findFile}
 use Rattle.faults.specs.declared.Fault.{Fault}
 use Rattle.faults.specs.Faults.{faults, countFaults, rowAfter}
-use Rattle.steps.specs.declared.Ending.{Ending}
 use Rattle.steps.specs.declared.Ending.the-variants as ending
 use Rattle.steps.specs.declared.Session.{Session}
 use Rattle.steps.specs.Reading.{refuseOutside}
@@ -41,7 +40,7 @@ use Rattle.signing.specs.declared.Built.the-variants as built
 use Rattle.signing.specs.Calls.{Answer, Signs, signed, builtAs, outcomeOf, blockLeft}
 use Rattle.signing.specs.Calls as signing
 use Rattle.commits.specs.Committing.{committedImage, committedSigned}
-use Rattle.steps.specs.Calls.{After, unchanged, done, finished, leaving, readCommitted, readStaged, isVerified, countVerified, begin, beginIn, inSession, writeTo, writeOn, write, commitOn, commit, commitBy, commitSigned, abandon, Abandoned, landed}
+use Rattle.steps.specs.Calls.{After, unchanged, done, finished, leaving, readCommitted, readStaged, isVerified, countVerified, begin, beginIn, inSession, writeOn, write, commitOn, commit, commitBy, commitSigned, abandon, Abandoned, landed}
 use Rattle.history.specs.Model.{Form, Plain, Signed, Query, Open, ReadCommitted, ReadStaged, IsVerified, CountVerified, ListFaults, SigningBlock, SigningDigest, ListNames, FindFile, Call, Ask, Begin, Write, Commit, Abandon, Opening, Judging, Counting, Listing, Building, Finding, Ruling, Accepted, Refused, Dropped, rulingOf, endingOf, namesRuling, ruling}
 use Rattle.history.specs.Run.{State, openedAs, committedAs, reply, perform, ruled, next}
 

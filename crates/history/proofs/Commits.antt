@@ -27,7 +27,7 @@ use Rattle.layout.specs.declared.Slot.{Slot}
 use Rattle.layout.specs.declared.Opened.the-variants as opening
 use Rattle.layout.specs.declared.JudgedHeader.the-variants.{GoodHeader}
 use Rattle.layout.specs.declared.JudgedPartition.the-variants.{GoodPartition}
-use Rattle.layout.specs.Headers.{front, headerRange, headerBytes, hashRange, judgedHeader}
+use Rattle.layout.specs.Headers.{front, headerBytes, hashRange, judgedHeader}
 use Rattle.layout.specs.Tables.{active, inactive, tableMatches}
 use Rattle.layout.specs.Descriptors.{difiFields, partitionFields}
 use Rattle.layout.specs.Opening.{opened, judgedSlot}
@@ -47,7 +47,9 @@ use Rattle.views.specs.Versions.{versionOf}
 use Rattle.history.proofs.CallLaws.{Headed, CommitLaws}
 use Rattle.history.proofs.Seen.{SameSeen, same-version}
 use Rattle.history.proofs.Flips.{partitionFlipped, Restaged, flipped-judged, headerFlipped, reheaded-hash, flipped-header}
-use Rattle.history.proofs.Tables.{length-of, byte-of, place-of, off-masters, off-selectors, active-bytes, staged-other, staged-own, not-in-master, staged-byte}
+use Rattle.history.proofs.Tables.{byte-of, place-of, off-masters, off-selectors, active-bytes, staged-other, staged-own, not-in-master, staged-byte}
+use Rattle.layout.proofs.TableLaws.{part-length}
+use Rattle.history.proofs.Units.{header-size}
 
 -- the container that is opened afterwards: the flag and each partition's selector are flipped
 abbrev secondFlipped : Second → Second
@@ -92,9 +94,6 @@ module _ (image : List ℕ) (c : Container) (o : opened image ≡ opening.Valid 
 
   -- ---- the bytes
 
-  header-size : length (headerBytes image) ≡ 256
-  header-size = let n = g .shortest in length-of image headerRange (omega arith)
-
   after-keeps : Keeps (InRange front) image after
   after-keeps = record { size = headed .size; bytes = λ i f. headed .rest i (past-front i f) }
     where
@@ -121,7 +120,7 @@ module _ (image : List ℕ) (c : Container) (o : opened image ≡ opening.Valid 
   unfolding headerCommitted
   header-good =
       ap (λ (n : ℕ). judgedHeader n (headerBytes after)) (headed .size) ∙ ap (judgedHeader (length image)) (headed .header)
-      ∙ flipped-header (length image) (headerBytes image) (sha256 S) (c .header) header-size (length-sha256 S)
+      ∙ flipped-header (length image) (headerBytes image) (sha256 S) (c .header) (header-size image c g) (length-sha256 S)
       (header-checked (length image) (headerBytes image) (c .header) (checked image c o .header))
 
   hash-good : tableMatches (c .header .kind) (headerBytes after) S ≡ true
@@ -129,7 +128,7 @@ module _ (image : List ℕ) (c : Container) (o : opened image ≡ opening.Valid 
   hash-good =
       ap (λ (x : List ℕ). sameBytes (part x (hashRange (c .header .kind))) (sha256 S)) (headed .header)
       ∙ ap (λ (x : List ℕ). sameBytes x (sha256 S))
-      (reheaded-hash (c .header .kind) (1 - c .header .flag) (sha256 S) (headerBytes image) header-size (length-sha256 S))
+      (reheaded-hash (c .header .kind) (1 - c .header .flag) (sha256 S) (headerBytes image) (header-size image c g) (length-sha256 S))
       ∙ same-refl (sha256 S)
 
   -- each descriptor
@@ -157,10 +156,10 @@ module _ (image : List ℕ) (c : Container) (o : opened image ≡ opening.Valid 
     difi-as = sym (ap (λ (x : Partition). x .difi) described-as)
 
     staged-size : length S ≡ c .header .primary .size
-    staged-size = let t = inactive-table image c g in length-of image (inactive (c .header)) (t .inside) ∙ t .size
+    staged-size = let t = inactive-table image c g in part-length image (inactive (c .header)) (t .inside) ∙ t .size
 
     old-size : length (part A (slot .descriptor)) ≡ slot .descriptor .size
-    old-size = let n = active-bytes image c g in let i = inside in length-of A (slot .descriptor) (omega arith)
+    old-size = let n = active-bytes image c g in let i = inside in part-length A (slot .descriptor) (omega arith)
 
     new-byte : (j : ℕ) → j < slot .descriptor .size → inSomeMaster c (slot .descriptor .offset + j) ≡ false
         → getD (part S (slot .descriptor)) j 0 ≡ getD (stagedTable c image) (slot .descriptor .offset + j) 0
@@ -183,7 +182,7 @@ module _ (image : List ℕ) (c : Container) (o : opened image ≡ opening.Valid 
         let d = rules .difiInside in
         let m = rules .masterDifi in
         record {
-          size = length-of S (slot .descriptor) (omega arith) ∙ sym n;
+          size = part-length S (slot .descriptor) (omega arith) ∙ sym n;
           selector = new-byte 0x39 (omega arith) (clear 0x39 (omega arith) (inl (omega arith))) ∙ staged-own image c g q h
               ∙ ap (λ (x : Difi). 1 - x .selector) (sym difi-as);
           rest = λ j l ne out. let k : j < slot .descriptor .size = omega arith in

@@ -1,7 +1,7 @@
 -- What a commit does to opening's fields: a descriptor that differs from a good one in its selector and its master hash is good too, and so
 -- is a header that differs in its flag and its hash. Assumes nothing.
 use mathlib.Core.Path.{_≡_, refl, sym, ap, _∙_, subst}
-use mathlib.Core.Bool.{Bool, true, false, not, _&&_, _||_, cond}
+use mathlib.Core.Bool.{Bool, true, not, _&&_, _||_, cond}
 use mathlib.Core.List.{List, [], _∷_}
 use mathlib.Core.Logic.{inl, inr}
 use Prim.Native.Nat.{ℕ, _+_, _-_, _≤_, _<_}
@@ -15,7 +15,7 @@ use Rattle.number.specs.Fields.{le16, le32, le64}
 use Rattle.number.specs.Ranges.{Apart, part}
 use Rattle.number.specs.Bytes.{Outside, sameBytes}
 use Rattle.number.proofs.Tests.{and-left, and-right, and-both}
-use Rattle.number.proofs.ListLaws.{length-part, getD-part, part-same, sets-in, sets-out, same-is}
+use Rattle.number.proofs.ListLaws.{length-part, getD-part, part-same, sets-in, sets-out}
 use Rattle.layout.specs.declared.Kind.{Kind}
 use Rattle.layout.specs.declared.Kind.the-variants.{Disa, Diff}
 use Rattle.layout.specs.declared.Header.{Header}
@@ -30,7 +30,8 @@ use Rattle.layout.specs.Magic.{opensWith, disaMagic, diffMagic, difiMagic}
 use Rattle.layout.specs.Headers.{flagOffset, hashRange, rangeAt, noSlot, unused, disaHeader, diffHeader, headerMagic, headerFields, selectionAllowed, geometryAllowed, judgedFields, judgedHeader}
 use Rattle.layout.specs.Descriptors.{difiFields, ivfcFields, dpfsFields, partitionFields, difiAllowed, ivfcAllowed, dpfsAllowed, readable, formAllowed, piecesPlaced, levelsPlaced, allEnough, placesAllowed, judgedPartition}
 use Rattle.layout.specs.Guarantees.{PartitionGuarantees}
-use Rattle.layout.proofs.HeaderLaws.{HeaderChecks}
+use Rattle.layout.proofs.HeaderLaws.{HeaderChecks, one-kind}
+use Rattle.commits.proofs.HeaderLaws.{hash-inside}
 
 -- ---- fields of two lists that agree from a to b
 
@@ -196,11 +197,7 @@ module _ (kind : Kind) (flag : ℕ) (hash s : List ℕ) (n : length s ≡ 256) (
       go Diff = omega arith
 
   hash-fits : hashRange kind .offset + 32 ≤ 256
-  hash-fits = go kind
-    where
-      go : (k : Kind) → hashRange k .offset + 32 ≤ 256
-      go Disa = omega arith
-      go Diff = omega arith
+  hash-fits = hash-inside kind
 
   pub reheaded-rest : (j : ℕ) → j < hashRange kind .offset → (j ≡ flagOffset kind → ⊥) → getD (reheaded kind flag hash s) j 0 ≡ getD s j 0
   reheaded-rest j h q = sets-out (set s (flagOffset kind) flag) (hashRange kind .offset) hash j (inl h) ∙ getD-set-other s (flagOffset kind) j flag 0 q
@@ -299,12 +296,6 @@ diff-fields flag hash s n m e l =
       b = noSlot;
     }
 
--- a list that opens as one kind does not open as the other
-diff-not-disa : (s : List ℕ) → opensWith s diffMagic ≡ true → opensWith s disaMagic ≡ false
-unfolding opensWith sameBytes
-diff-not-disa s e =
-    ap (λ (x : List ℕ). sameBytes x disaMagic) (same-is (part s (record { offset = 0; size = 8 })) diffMagic e)
-
 module _ (n : ℕ) (s hash : List ℕ) (h : Header) (size : length s ≡ 256) (digest : length hash ≡ 32) (k : HeaderChecks n s h) where
   both : countAllowed (h .count) && flagAllowed (h .flag) ≡ true
   unfolding selectionAllowed
@@ -350,6 +341,6 @@ module _ (n : ℕ) (s hash : List ℕ) (h : Header) (size : length s ≡ 256) (d
           let low : diffHeader s .flag ≤ 1 = subst (λ (x : Header). x .flag ≤ 1) fields small in
           let same : diffHeader t ≡ headerFlipped h =
           diff-fields (1 - h .flag) hash s size digest (ap (λ (x : Header). 1 - x .flag) fields) low ∙ ap headerFlipped (sym fields) in
-          ap (λ (x : Bool). cond x (judgedFields n (disaHeader t)) (cond (opensWith t diffMagic) (judgedFields n (diffHeader t)) (BadHeader Format))) (diff-not-disa t opens)
+          ap (λ (x : Bool). cond x (judgedFields n (disaHeader t)) (cond (opensWith t diffMagic) (judgedFields n (diffHeader t)) (BadHeader Format))) (one-kind t opens)
           ∙ ap (λ (x : Bool). cond x (judgedFields n (diffHeader t)) (BadHeader Format)) opens
           ∙ ap (judgedFields n) same ∙ judged-fields

@@ -15,6 +15,7 @@ use Rattle.number.specs.Bytes.{Outside, sameBytes}
 use Rattle.number.specs.Frame.{Keeps}
 use Rattle.number.proofs.FrameLaws.{keeps-sets}
 use Rattle.number.proofs.ListLaws.{outside-or-in, getD-part, sets-in, sets-out}
+use Rattle.number.proofs.OrderLaws.{sets-after, sets-again, sets-parts}
 use Rattle.sha256.specs.Sha256.{sha256}
 use Rattle.layout.specs.declared.Container.{Container}
 use Rattle.layout.specs.declared.Opened.{Opened}
@@ -56,7 +57,7 @@ use Rattle.history.proofs.Outers.{front-stays}
 use Rattle.history.proofs.Signing.{same-signed, same-signature, unit}
 use Rattle.history.proofs.Reverts.{backImage, reverted-by, refused, lasts}
 use Rattle.history.proofs.Fronts.{Fronted, Past, staged-past, front-part, front-header, front-opened, front-seen, front-current, front-staged, front-answers}
-use Rattle.history.proofs.FrontStores.{cond-through, sets-after, sets-again, sets-parts, laid-front, written-laid, begin-laid}
+use Rattle.history.proofs.FrontStores.{cond-through, laid-front, written-laid, begin-laid}
 
 -- ---- an image that differs from another in a range is that one with its own bytes laid over there
 

@@ -183,9 +183,9 @@ module _ (image left : List ℕ) (k : Fronted image left) where
       by false h = refl
 
   module _ (q : ℕ) where
-    reads : (x : ℕ) (buffer : List ℕ) (o : Opened) → opened image ≡ o → readIn left q x buffer o ≡ readIn image q x buffer o
-    reads x buffer (opening.Refused r) e = refl
-    reads x buffer (opening.Valid c) e =
+    read : (x : ℕ) (buffer : List ℕ) (o : Opened) → opened image ≡ o → readIn left q x buffer o ≡ readIn image q x buffer o
+    read x buffer (opening.Refused r) e = refl
+    read x buffer (opening.Valid c) e =
         if-there (partitions c) q _ _ (unread buffer NoPartition)
         (λ h. front-read (committedView c q) (committed-past image c (guarantees image c e) q h) x buffer)
 
@@ -249,7 +249,7 @@ module _ (image left : List ℕ) (k : Fronted image left) where
   unfolding readCommitted isVerified countVerified countFaults faults listNames findFile
   front-answers = record {
     opening = front-opened;
-    reads = λ q x buffer. ap (readIn left q x buffer) front-opened ∙ reads q x buffer (opened image) refl;
+    reads = λ q x buffer. ap (readIn left q x buffer) front-opened ∙ read q x buffer (opened image) refl;
     questions = λ q b. ap (verifiedIn left q b) front-opened ∙ questions q b (opened image) refl;
     counts = λ q. ap (countVerifiedIn left q) front-opened ∙ counts q (opened image) refl;
     faultCount = ap (countFaultsIn left) front-opened ∙ fault-count (opened image) refl;

@@ -12,7 +12,6 @@ use lib.Seq.{ext-getD}
 use lib.Dec.{leb, ltb}
 use borrow.Author.Tests.{ltb-true, leb-true}
 use Rattle.number.specs.declared.Level.{Level}
-use Rattle.number.specs.declared.Range.{Range}
 use Rattle.number.specs.Ranges.{Apart}
 use Rattle.number.specs.Blocks.{blocks, blockOf, touches}
 use Rattle.number.specs.Bytes.{bytes}

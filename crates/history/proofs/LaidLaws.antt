@@ -7,15 +7,15 @@ use mathlib.Core.Option.{Option, none, some, Option·getD}
 use Prim.Native.Nat.{ℕ, zero, suc, _+_, _-_, _≤_, _<_}
 use native.Mathlib.Omega.{arith}
 use native.Mathlib.Nat.{add-zero}
-use lib.ListN.{length, getD, set, length-set}
-use lib.Seq.{sets, length-sets, getD-set-same}
+use lib.ListN.{length, getD}
+use lib.Seq.{sets, length-sets}
 use lib.Dec.{leb}
 use borrow.Author.Tests.{leb-true, ltb-true}
 use Rattle.number.specs.declared.Level.{Level}
 use Rattle.number.specs.Blocks.{blockOf, touches}
 use Rattle.number.specs.Bytes.{within, Outside}
 use Rattle.number.proofs.Tests.{and-left, and-right}
-use Rattle.number.proofs.ListLaws.{outside-or-in, sets-out}
+use Rattle.number.proofs.ListLaws.{outside-or-in, sets-at, sets-out}
 use Rattle.number.proofs.OverlayLaws.{within-in, within-out}
 use Rattle.number.proofs.BlockLaws.{touches-byte}
 use Rattle.history.specs.Model.{marked, laidOver, Event}
@@ -60,15 +60,6 @@ value-there : (put : Put) (i : ℕ) → put .place ≤ i → i < put .place + le
 value-there put i a b e = never (sym e ∙ ap (λ (t : Bool). cond t (some (getD (put .bytes) (i - put .place) 0)) none) (within-in (put .place) (length (put .bytes)) i a b))
 
 -- ---- bytes
-
-sets-at : (s : List ℕ) (x : ℕ) (l : List ℕ) (m : ℕ) → x + m < length s → m < length l → getD (sets s x l) (x + m) 0 ≡ getD l m 0
-sets-at s x [] m h k = absurd (omega arith)
-sets-at s x (v ∷ vs) zero h k =
-    ap (λ (y : ℕ). getD (sets (set s x v) (suc x) vs) y 0) (add-zero x)
-    ∙ sets-out (set s x v) (suc x) vs x (inl (omega arith)) ∙ getD-set-same s x v 0 (omega arith)
-sets-at s x (v ∷ vs) (suc m) h k =
-    let e : x + suc m ≡ suc x + m = omega arith in
-    ap (λ (y : ℕ). getD (sets (set s x v) (suc x) vs) y 0) e ∙ sets-at (set s x v) (suc x) vs m (rw length-set (omega arith)) (omega arith)
 
 put-size : (o : Option Put) (v : Version) → length (putOver o v .bytes) ≡ length (v .bytes)
 unfolding laidOver

@@ -14,24 +14,23 @@ use borrow.Author.Tests.{le-leb, eqb-true}
 use Rattle.number.specs.declared.Level.{Level}
 use Rattle.number.specs.Blocks.{blocks, blockOf, touches}
 use Rattle.number.specs.Bytes.{bytes}
-use Rattle.number.proofs.ListLaws.{length-bytes, getD-bytes}
 use Rattle.number.proofs.BlockLaws.{block-exists, touches-byte}
 use Rattle.layout.specs.declared.Container.{Container}
 use Rattle.ivfc.specs.declared.View.{View}
-use Rattle.ivfc.specs.Views.{contentOf, verified}
+use Rattle.ivfc.specs.Views.{verified}
 use Rattle.views.specs.Places.{viewIn, committedView, stagedView}
 use Rattle.layout.specs.declared.Outcome.the-variants as outcome
 use Rattle.steps.specs.Calls.{readCommitted}
 use Rattle.history.specs.Model.{laidOver, lowest, readOf, Form, Call, Ask, Begin, Write, Commit, Abandon, Ruling, Accepted, Refused, Dropped, Event, Did, Model, advance, followed}
 use Rattle.views.specs.Versions.{Version, versionOf}
 use Rattle.history.specs.Run.{State, perform, ruled, next, after, events, beginOf, begins, commitOf, commits, Put, putBy, valueAt, later, lastValue}
-use Rattle.history.specs.Theorem.{Has, Start, committedIn, levelIn, byteIn, verifiedIn, Landed}
+use Rattle.history.specs.Theorem.{levelIn, byteIn, verifiedIn, Landed}
 use Rattle.history.proofs.VersionLaws.{never}
-use Rattle.views.proofs.FlagLaws.{length-flags, getD-flags}
 use Rattle.history.specs.External.{There, committedOf}
 use Rattle.history.proofs.ReadLaws.{read-committed}
 use Rattle.history.proofs.CallCases.{not-both, not-dropped, lasts, refused, idles, idle-after}
 use Rattle.history.proofs.LaidLaws.{putOver, laid, later-some, value-in, laid-bytes, laid-level, laid-written, laid-others}
+use Rattle.views.proofs.VersionLaws.{version-byte, version-flag, version-size, version-count}
 
 -- ---- the calls that are accepted: a write and a commit while there is a staged version, a write within level 4
 
@@ -177,26 +176,6 @@ landing p (Did d Refused ∷ es) v l b c = lands-on p _ es _ _ v (landing p es v
 landing p (Did d Dropped ∷ es) v l b c = lands-on p _ es _ _ v (landing p es v l (omega arith) (omega arith)) refl refl refl
 
 -- ---- what that says of the views
-
-version-byte : (view : View) (image : List ℕ) (i : ℕ) → i < view .level4 .size → getD (versionOf view image .bytes) i 0 ≡ contentOf view image 4 i
-unfolding versionOf
-version-byte view image i h =
-    let z : 0 + i ≡ i = omega arith in
-    getD-bytes (contentOf view image 4) 0 (view .level4 .size) i h ∙ ap (contentOf view image 4) z
-
-version-flag : (view : View) (image : List ℕ) (b : ℕ) → b < blocks (view .level4) → getD (versionOf view image .verified) b false ≡ verified view image 4 b
-unfolding versionOf
-version-flag view image b h =
-    let z : 0 + b ≡ b = omega arith in
-    getD-flags (verified view image 4) 0 (blocks (view .level4)) b h ∙ ap (verified view image 4) z
-
-version-size : (view : View) (image : List ℕ) → length (versionOf view image .bytes) ≡ view .level4 .size
-unfolding versionOf
-version-size view image = length-bytes (contentOf view image 4) 0 (view .level4 .size)
-
-version-count : (view : View) (image : List ℕ) → length (versionOf view image .verified) ≡ blocks (view .level4)
-unfolding versionOf
-version-count view image = length-flags (verified view image 4) 0 (blocks (view .level4))
 
 -- a read of one byte whose block is verified
 lowest-verified : (touched : ℕ → Bool) (b : ℕ) (vs : List Bool) → ((k : ℕ) → k < length vs → touched (b + k) ≡ true → getD vs k false ≡ true) → lowest touched b vs ≡ none

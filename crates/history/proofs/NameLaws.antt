@@ -3,16 +3,14 @@ use mathlib.Core.Path.{_≡_, refl, sym, ap, _∙_}
 use mathlib.Core.Bool.{Bool, true, false, cond}
 use mathlib.Core.List.{List}
 use Prim.Native.Nat.{ℕ}
-use lib.Dec.{ltb}
 use Rattle.layout.specs.declared.Container.{Container}
 use Rattle.layout.specs.declared.Opened.the-variants as opening
 use Rattle.layout.specs.declared.Refusal.the-variants.{NoSave}
 use Rattle.layout.specs.Opening.{opened}
-use Rattle.views.specs.Places.{partitions, committedView}
+use Rattle.views.specs.Places.{committedView}
 use Rattle.views.specs.Versions.{Version, versionOf}
 use Rattle.save.specs.declared.Sought.the-variants as sought
 use Rattle.save.specs.Calls.{holdsSave, unlisted, namesOf, listedIn, listNames, fileOf, soughtIn, findFile}
-use Rattle.save.proofs.CallLaws.{holds-there}
 
 module _ (image : List ℕ) (c : Container) (o : opened image ≡ opening.Valid c) where
   pub names-there : holdsSave c ≡ true → (row : List ℕ) → listNames image row ≡ namesOf (versionOf (committedView c 0) image) row

@@ -15,7 +15,7 @@ use Rattle.layout.specs.declared.Refusal.the-variants.{SessionState, Stale}
 use Rattle.steps.specs.declared.Session.{Session}
 use Rattle.steps.specs.Sessions.{current}
 use Rattle.steps.specs.Calls.{After, unchanged, begin, beginIn, inSession, commitOn, commit, commitBy, commitSigned, abandon}
-use Rattle.history.specs.Model.{Plain, Signed, Call, Begin, Commit, Abandon, Answer, Stepping, Accepted, endingOf, Model, followed, rulingOf}
+use Rattle.history.specs.Model.{Plain, Signed, Call, Begin, Commit, Abandon, Answer, Stepping, Accepted, endingOf, Model, followed}
 use Rattle.views.specs.Versions.{Version}
 use Rattle.history.specs.Run.{State, perform, ruled, after, events}
 use Rattle.history.specs.Theorem.{endedBy, Start, committedIn, ProgressTheorem}

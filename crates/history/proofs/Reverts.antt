@@ -1,6 +1,6 @@
 -- What a revert answers and leaves, plain and signed. Assumes nothing.
 use mathlib.Core.Path.{_≡_, refl, sym, ap, _∙_, subst}
-use mathlib.Core.Bool.{Bool, true, false, _&&_, cond}
+use mathlib.Core.Bool.{Bool, true, false, cond}
 use mathlib.Core.List.{List}
 use mathlib.Core.Logic.{inl, inr}
 use Prim.Native.Nat.{ℕ, _≤_}
@@ -11,7 +11,7 @@ use Rattle.number.specs.Ranges.{part}
 use Rattle.number.specs.Bytes.{Outside, sameBytes}
 use Rattle.number.specs.Frame.{Keeps}
 use Rattle.number.proofs.FrameLaws.{keeps-refl, keeps-trans, keeps-sets}
-use Rattle.number.proofs.Tests.{and-right, and-both}
+use Rattle.number.proofs.Tests.{and-right, and-both, left-fails}
 use Rattle.number.proofs.ListLaws.{sets-in, sets-out, sets-is, same-refl, same-is}
 use Rattle.layout.specs.declared.Container.{Container}
 use Rattle.layout.specs.declared.Opened.{Opened}
@@ -42,12 +42,13 @@ use Rattle.history.specs.Term.{revertedAs, reverted, ruledRevert, nextRe
 use Rattle.history.proofs.CallCases.{not-both, not-dropped, not-taken, left, Kept, kept-cond, kept-done, Lasts, lasts-cond, went, went-not, landedImage, idle-after, committed-by, opens-first}
 use Rattle.history.proofs.Following.{staged-table}
 use Rattle.history.proofs.Landing.{stays-on}
-use Rattle.history.proofs.Tables.{length-of, byte-of}
+use Rattle.history.proofs.Tables.{byte-of}
 use Rattle.history.proofs.Units.{new-size, headed}
 use Rattle.history.proofs.Commits.{commits}
 use Rattle.history.proofs.Signing.{same-signed, signs-too, opens-signed}
-use Rattle.history.proofs.FrontStores.{sets-after}
+use Rattle.number.proofs.OrderLaws.{sets-after}
 use Rattle.history.proofs.Fronts.{Fronted, stamped-front, front-opened, front-header, front-answers}
+use Rattle.layout.proofs.TableLaws.{part-length}
 
 -- ---- nothing remembered
 
@@ -67,9 +68,6 @@ unlike image c o = by (sameBytes (headerBytes image) nothing) refl
         ap (judgedHeader (length image)) (same-is (headerBytes image) nothing e) ∙ no-header (length image) in
         let z : _≡_ {A = ℕ} 0 1 = cc in
         absurd (omega arith)
-
-left-no : (a b : Bool) → a ≡ false → (a && b) ≡ false
-left-no a b e = rw e
 
 -- ---- what a revert of either form does once it may
 
@@ -113,7 +111,7 @@ fresh form image c o =
     let next = revertNext form (record { image = image; session = idle }) in
     revert-is form (record { image = image; session = idle }) ∙ ap (reverting image idle next) o
     ∙ ap (λ (t : Bool). cond t next (unchanged image idle NothingToRevert))
-    (left-no (sameBytes (headerBytes image) nothing) (isValid (opened (revertedImage image nothing))) (unlike image c o))
+    (left-fails (sameBytes (headerBytes image) nothing) (isValid (opened (revertedImage image nothing))) (unlike image c o))
 
 -- ---- which case it is
 
@@ -211,7 +209,7 @@ forgot form image = by (opened image) refl
 -- a header put back
 put-back : (base header : List ℕ) → 0x200 ≤ length base → length header ≡ 256 → sets (sets base 0x100 header) 0x100 (headerBytes base) ≡ base
 put-back base header m n =
-    let k : length (headerBytes base) ≡ 256 = length-of base headerRange (omega arith) in
+    let k : length (headerBytes base) ≡ 256 = part-length base headerRange (omega arith) in
     let l = length-sets base 0x100 header in
     sym (sets-is (sets base 0x100 header) 0x100 (headerBytes base) base (omega arith) (sym l)
     (λ j h. sym (byte-of base headerRange j (omega arith)))
@@ -234,9 +232,6 @@ module _ (image : List ℕ) (c : Container) (o : opened image ≡ opening.Valid 
 
   abbrev session : Session
   session = remembering (headerBytes image) (headerBytes there)
-
-  header-long : length (headerBytes image) ≡ 256
-  header-long = let n = g .shortest in length-of image headerRange (omega arith)
 
   -- the signature that the commit put, if any
   abbrev put : List ℕ
@@ -323,7 +318,7 @@ module _ (form back : Form) (st : State) (e : ruled (Commit form) st ≡ Accepte
 front-put : (base code : List ℕ) → 0x200 ≤ length base → length code ≡ 16 → part (sets base 0 code) signatureRange ≡ code
 front-put base code m n =
     let l = length-sets base 0 code in
-    let k : length (part (sets base 0 code) signatureRange) ≡ 16 = length-of (sets base 0 code) signatureRange (omega arith) in
+    let k : length (part (sets base 0 code) signatureRange) ≡ 16 = part-length (sets base 0 code) signatureRange (omega arith) in
     ext-getD 0 (part (sets base 0 code) signatureRange) code (k ∙ sym n)
     (λ i h. byte-of (sets base 0 code) signatureRange i (omega arith) ∙ sets-in base 0 code i (omega arith) (omega arith))
 

@@ -44,8 +44,7 @@ use Rattle.steps.specs.Sessions.{idle, begunWith, begunImage, current, endsOutc
 use Rattle.steps.specs.Calls.{After, finished, inSession, writeOn, write}
 use Rattle.steps.proofs.BeginLaws.{begun-current}
 use Rattle.steps.proofs.WriteLaws.{write-rules}
-use Rattle.history.specs.Model.{Plain, Call, Begin, Write, Commit, Accepted, endingOf, Did, rulingOf, ruling, Ruling}
-use Rattle.views.specs.Versions.{Version, versionOf, flags}
+use Rattle.history.specs.Model.{Plain, Call, Begin, Write, Commit, Accepted, endingOf, Did, ruling, Ruling}
 use Rattle.history.specs.Run.{State, perform, ruled, next, after, events, begins, commits}
 use Rattle.history.specs.External.{SomeExternal, LeftBut}
 use Rattle.history.specs.Theorem.{Start}

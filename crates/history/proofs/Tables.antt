@@ -13,8 +13,7 @@ use borrow.Author.Tests.{eqb-true, eq-eqb}
 use Rattle.number.specs.declared.Range.{Range}
 use Rattle.number.specs.Ranges.{Apart, part}
 use Rattle.number.specs.Bytes.{Outside}
-use Rattle.number.proofs.Tests.{and-left, and-right}
-use Rattle.number.proofs.ListLaws.{length-part, getD-part}
+use Rattle.number.proofs.ListLaws.{getD-part}
 use Rattle.number.proofs.OverlayLaws.{within-out}
 use Rattle.number.proofs.RangeLaws.{apart-swap}
 use Rattle.layout.specs.declared.Container.{Container}
@@ -25,30 +24,19 @@ use Rattle.dpfs.specs.Rules.{Aside}
 use Rattle.dpfs.proofs.SpareLaws.{aside-swap}
 use Rattle.views.specs.Places.{partitions, slotOf, partitionOf, treeOf, spaceOf}
 use Rattle.views.proofs.PlaceLaws.{first-there, second-there, third-missing, Present, present, active-table, space-rules}
-use Rattle.steps.specs.Sessions.{selectorPlace, selectorFlipped, stagedTable, inMaster, inSomeMaster, allBelow, tableStaged}
-
-pub all-below : (n : ℕ) (P : ℕ → Bool) → allBelow n P ≡ true → (i : ℕ) → i < n → P i ≡ true
-unfolding allBelow
-all-below zero P e i h = absurd (omega arith)
-all-below (suc n) P e i h = by (ℕ-discrete i n) (all-below n P (and-left (allBelow n P) (P n) e) i)
-  where
-    by : Dec (i ≡ n) → (i < n → P i ≡ true) → P i ≡ true
-    by (yes q) r = ap P q ∙ and-right (allBelow n P) (P n) e
-    by (no q) r = r (omega arith)
-
-pub below-all : (n : ℕ) (P : ℕ → Bool) → ((i : ℕ) → i < n → P i ≡ true) → allBelow n P ≡ true
-unfolding allBelow
-below-all zero P h = refl
-below-all (suc n) P h = rw (below-all n P (λ i k. h i (omega arith)), h n (omega arith))
+use Rattle.steps.specs.Sessions.{selectorPlace, selectorFlipped, stagedTable, inMaster, inSomeMaster, tableStaged}
+use Rattle.layout.proofs.TableLaws.{part-length}
+use Rattle.steps.proofs.BelowLaws.{all-below}
+use Rattle.dpfs.specs.Free.{InRange}
 
 -- bytes of a part
-pub length-of : (s : List ℕ) (r : Range) → r .offset + r .size ≤ length s → length (part s r) ≡ r .size
-unfolding part
-length-of s r h = length-part s (r .offset) (r .size) h
-
 pub byte-of : (s : List ℕ) (r : Range) (j : ℕ) → j < r .size → getD (part s r) j 0 ≡ getD s (r .offset + j) 0
 unfolding part
 byte-of s r j h = getD-part s (r .offset) (r .size) j h
+
+-- a place of the staged table
+pub in-table : (c : Container) (i : ℕ) → i < inactive (c .header) .size → InRange (inactive (c .header)) (inactive (c .header) .offset + i)
+in-table c i h = (omega arith, omega arith)
 
 module _ (image : List ℕ) (c : Container) (g : Guarantees image c) where
   pub place-of : (q : ℕ) → q < partitions c → Present image c q
@@ -117,7 +105,7 @@ module _ (image : List ℕ) (c : Container) (g : Guarantees image c) where
 
   -- the staged table
   pub active-bytes : length (part image (active (c .header))) ≡ c .header .primary .size
-  active-bytes = length-of image (active (c .header)) (active-table image c g .inside) ∙ active-table image c g .size
+  active-bytes = part-length image (active (c .header)) (active-table image c g .inside) ∙ active-table image c g .size
 
   selector-inside : (q : ℕ) → q < partitions c → selectorPlace (slotOf c q) < length (part image (active (c .header)))
   selector-inside q h =
@@ -126,16 +114,6 @@ module _ (image : List ℕ) (c : Container) (g : Guarantees image c) where
       let b = p .described .guarantees .difiInside in
       let n = active-bytes in
       omega arith
-
-  pub staged-length : length (stagedTable c image) ≡ c .header .primary .size
-  unfolding stagedTable selectorFlipped
-  staged-length = by (eqb (partitions c) 2)
-    where
-      by : (two : Bool) → length (cond two (selectorFlipped c 1 (selectorFlipped c 0 (part image (active (c .header))))) (selectorFlipped c 0 (part image (active (c .header))))) ≡ c .header .primary .size
-      by true =
-          length-set (selectorFlipped c 0 (part image (active (c .header)))) (selectorPlace (slotOf c 1)) (1 - partitionOf c 1 .difi .selector)
-          ∙ length-set (part image (active (c .header))) (selectorPlace (slotOf c 0)) (1 - partitionOf c 0 .difi .selector) ∙ active-bytes
-      by false = length-set (part image (active (c .header))) (selectorPlace (slotOf c 0)) (1 - partitionOf c 0 .difi .selector) ∙ active-bytes
 
   pub staged-other : (i : ℕ) → ((r : ℕ) → r < partitions c → i ≢ selectorPlace (slotOf c r)) → getD (stagedTable c image) i 0 ≡ getD (part image (active (c .header))) i 0
   unfolding stagedTable selectorFlipped

@@ -70,25 +70,6 @@ same-newest p Abandon Accepted m z = refl
 same-newest p c Refused m z = refl
 same-newest p c Dropped m z = refl
 
--- they append nothing, and the image that was found stays
-same-older : (c : Call) (r : Ruling) (v : Version) (older : List Version) → commitOf (Did c r) ≡ 0 → appended c r v older ≡ older
-same-older (Ask query) r v older z = refl
-same-older Begin r v older z = refl
-same-older (Write q place bytes) r v older z = refl
-same-older (Commit form) Accepted v older z = absurd (omega arith)
-same-older (Commit form) Refused v older z = refl
-same-older (Commit form) Dropped v older z = refl
-same-older Abandon r v older z = refl
-
-same-found : (c : Call) (r : Ruling) (found left : List ℕ) → commitOf (Did c r) ≡ 0 → foundAfter c r found left ≡ found
-same-found (Ask query) r found left z = refl
-same-found Begin r found left z = refl
-same-found (Write q place bytes) r found left z = refl
-same-found (Commit form) Accepted found left z = absurd (omega arith)
-same-found (Commit form) Refused found left z = refl
-same-found (Commit form) Dropped found left z = refl
-same-found Abandon r found left z = refl
-
 -- an accepted one forgets what the session remembered, or leaves the state alone
 unremembered : (p : ℕ) (st : State) (older : List Version) → st .session .begun ≡ true → Remembers p st older
 unremembered p st older b form e = not-both e (busy form st b)

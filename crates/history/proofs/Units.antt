@@ -22,11 +22,12 @@ use Rattle.history.specs.Model.{Form, Plain, Signed}
 use Rattle.history.proofs.CallCases.{landedImage}
 use Rattle.history.proofs.CallLaws.{Headed}
 use Rattle.history.proofs.Flips.{reheaded-size}
-use Rattle.history.proofs.Tables.{length-of, byte-of}
+use Rattle.history.proofs.Tables.{byte-of}
+use Rattle.layout.proofs.TableLaws.{part-length}
 
 module _ (image : List ℕ) (c : Container) (g : Guarantees image c) where
-  header-size : length (headerBytes image) ≡ 256
-  header-size = let n = g .shortest in length-of image headerRange (omega arith)
+  pub header-size : length (headerBytes image) ≡ 256
+  header-size = let n = g .shortest in part-length image headerRange (omega arith)
 
   pub new-size : length (headerCommitted c image) ≡ 256
   unfolding headerCommitted
@@ -49,7 +50,7 @@ module _ (image : List ℕ) (c : Container) (g : Guarantees image c) where
         let n = new-size in
         let m = g .shortest in
         let l = over-size in
-        let k : length (headerBytes over) ≡ 256 = length-of over headerRange (omega arith) in
+        let k : length (headerBytes over) ≡ 256 = part-length over headerRange (omega arith) in
         ext-getD 0 (headerBytes over) (headerCommitted c image) (k ∙ sym n)
         (λ i h. byte-of over headerRange i (omega arith) ∙ sets-in base 0x100 (headerCommitted c image) i (omega arith) (omega arith))
 
@@ -79,7 +80,7 @@ module _ (image : List ℕ) (c : Container) (g : Guarantees image c) where
       let n = length-signature key signer (headerCommitted c image) in
       let m = g .shortest in
       let l : length after ≡ length image = length-sets base 0x100 (headerCommitted c image) ∙ length-sets image 0 code in
-      let k : length (part after signatureRange) ≡ 16 = length-of after signatureRange (omega arith) in
+      let k : length (part after signatureRange) ≡ 16 = part-length after signatureRange (omega arith) in
       ext-getD 0 (part after signatureRange) code (k ∙ sym n)
       (λ i h. let z : 0 + i ≡ i = omega arith in
       byte-of after signatureRange i (omega arith) ∙ ap (λ (j : ℕ). getD after j 0) z

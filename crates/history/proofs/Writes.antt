@@ -35,11 +35,9 @@ use Rattle.views.specs.Places.{partitions, slotOf, partitionOf, treeOf, viewIn,
 use Rattle.steps.proofs.WriteLaws.{write-rules}
 use Rattle.views.proofs.PlaceLaws.{second-there, third-missing, staged-rules, staged-master, tree-among}
 use Rattle.layout.specs.declared.Outcome.the-variants as outcome
-use Rattle.steps.specs.Reading.{touched, refuseLowest, refuseOutside}
 use Rattle.steps.specs.Sessions.{stagedTable, inMaster, inSomeMaster, tableStaged, writeOutcome, selectorFlipped, forEach}
 use Rattle.history.specs.Model.{marked, laidOver}
 use Rattle.views.specs.Versions.{flags, versionOf}
-use Rattle.history.proofs.CallCases.{passed, unrefused, write-fits}
 use Rattle.views.specs.Protected.{ExternalByte, Protected}
 use Rattle.views.proofs.ProtectedLaws.{protected-not-free, same-or-apart, external-inside}
 use Rattle.history.specs.External.{InPlace, LeftBut}
@@ -48,7 +46,8 @@ use Rattle.history.proofs.CallLaws.{WriteLaws}
 use Rattle.history.proofs.LaidLaws.{put-bytes}
 use Rattle.history.proofs.Seen.{SameSeen, same-version}
 use Rattle.history.proofs.Outers.{place-outer, active-stays}
-use Rattle.history.proofs.Tables.{below-all, place-of, descriptors-apart, trees-apart, staged-byte}
+use Rattle.history.proofs.Tables.{place-of, descriptors-apart, trees-apart, staged-byte, in-table}
+use Rattle.steps.proofs.BelowLaws.{below-all}
 
 -- ---- the version, byte by byte and block by block
 
@@ -143,13 +142,10 @@ module _ (image : List ℕ) (c : Container) (o : opened image ≡ opening.Valid 
       by i h true m = refl
       by i h false m =
           eq-eqb (getD after (inactive (c .header) .offset + i) 0) (getD (stagedTable c after) i 0)
-          (write-table (spaceOf c) (stagedView c q) image place values write (inactive (c .header) .offset + i) (in-table i h)
+          (write-table (spaceOf c) (stagedView c q) image place values write (inactive (c .header) .offset + i) (in-table c i h)
           (λ f. true≢false (sym (in-master i f) ∙ m))
           ∙ staged-byte image c g e i h m
           ∙ ap (λ (x : List ℕ). getD x i 0) (sym staged-same))
-        where
-          in-table : (i : ℕ) → i < inactive (c .header) .size → InRange (inactive (c .header)) (inactive (c .header) .offset + i)
-          in-table i h = (omega arith, omega arith)
 
   -- ---- the other partition
 

@@ -1,15 +1,13 @@
 -- The model (01: the bench book) of one partition with internal level 4. It is fed each call's name, its arguments without image and
 -- session, and whether it was accepted; it says what the partition's reads and questions answer.
-use Prim.Native.Nat.{ℕ, zero, suc, _+_}
+use Prim.Native.Nat.{ℕ, suc, _+_}
 use mathlib.Core.Bool.{Bool, false, not, _&&_, _||_, cond}
 use mathlib.Core.List.{List, [], _∷_}
 use mathlib.Core.Option.{Option, none, some, Option·map, Option·getD}
 use lib.ListN.{length, getD, take, drop}
 use lib.Seq.{sets}
 use lib.Dec.{leb, ltb, eqb}
-use Rattle.number.specs.declared.Level.{Level}
-use Rattle.number.specs.Blocks.{blocks, touches}
-use Rattle.number.specs.Bytes as number
+use Rattle.number.specs.Blocks.{touches}
 use Rattle.layout.specs.declared.Opened.{Opened}
 use Rattle.layout.specs.declared.Opened.the-variants as opening
 use Rattle.layout.specs.declared.Refusal.the-variants.{OutOfRange, Unverified, SessionState}

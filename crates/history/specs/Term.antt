@@ -2,7 +2,7 @@
 -- statements; proofs/Reverts.antt and proofs/Terms.antt prove them. Demand 3 is a part of Theorem.antt and stays as it is: a run's calls are
 -- performed by the same `perform`, and its versions follow the same model.
 use mathlib.Core.Path.{_≡_}
-use Prim.Native.Nat.{ℕ, _+_}
+use Prim.Native.Nat.{ℕ}
 use mathlib.Core.List.{List, [], _∷_, _++_}
 use mathlib.Core.Option.{none, some}
 use lib.ListN.{length}

@@ -1,6 +1,6 @@
 -- Demand 3 of the paper: what every list of calls comes to. The closed statements; proofs/Demand.antt proves them.
 use mathlib.Core.Path.{_≡_}
-use Prim.Native.Nat.{ℕ, _+_, _≤_, _<_}
+use Prim.Native.Nat.{ℕ, _≤_, _<_}
 use mathlib.Core.Bool.{Bool, true, false}
 use mathlib.Core.List.{List, [], _∷_, _++_}
 use mathlib.Core.Logic.{_⊎_, _↔_}
@@ -20,8 +20,8 @@ use Rattle.layout.specs.declared.Outcome.{Outcome}
 use Rattle.layout.specs.declared.Outcome.the-variants as outcome
 use Rattle.steps.specs.declared.Ending.{Ending}
 use Rattle.steps.specs.declared.Ending.the-variants as ending
-use Rattle.steps.specs.Calls.{readCommitted, isVerified, countVerified}
-use Rattle.faults.specs.Faults.{kept, faults, countFaults}
+use Rattle.steps.specs.Calls.{readCommitted}
+use Rattle.faults.specs.Faults.{kept, faults}
 use Rattle.faults.specs.Laws.{ofLevel}
 use Rattle.signing.specs.declared.Signer.{Signer}
 use Rattle.signing.specs.Calls.{signed, outcomeOf}

@@ -106,6 +106,15 @@ module _ (view : View) (n : ℕ) (rules : ViewRules view n) where
       by true e = omega (arith, rules .outer4 e, rules .tree .limit)
       by false e = omega (arith, rules .inner4 e, rules .tree .inside3, rules .tree .limit)
 
+  -- level 4's size, and the logarithm of its blocks
+  pub size4-small : view .level4 .size ≤ 0x4000000
+  unfolding levelOf
+  size4-small = level-small 4 (omega arith)
+
+  pub log4-small : view .level4 .log < 64
+  unfolding levelOf
+  log4-small = omega (arith, rules .hash .logs 4 (omega arith))
+
   pub block-small : (i b : ℕ) → i ≤ 4 → b < blocks (levelOf view i) → b < 0x4000000
   block-small i b h k =
       let m : b * 1 ≤ b * blockSize (levelOf view i) = mul-le-mul-left b (size-pos (levelOf view i)) in

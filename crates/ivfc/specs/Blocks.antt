@@ -1,6 +1,5 @@
 -- Blocks and entries of a hash tree's levels, each given by the byte f y at each place y.
 use mathlib.Core.List.{List, _++_}
-use mathlib.Core.Bool.{Bool}
 use Prim.Native.Nat.{ℕ, _-_, _*_, _/_}
 use lib.ListN.{replicate}
 use Rattle.number.specs.declared.Level.{Level}

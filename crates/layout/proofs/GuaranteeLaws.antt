@@ -13,7 +13,7 @@ use Rattle.number.proofs.Tests.{and-left, and-right}
 use Rattle.number.proofs.ListLaws.{same-is}
 use Rattle.sha256.specs.Sha256.{sha256}
 use Rattle.limits.specs.Limits.{difiSize, shortestImage, longestImage, lengthAllowed}
-use Rattle.layout.specs.Headers.{headerBytes, hashRange, geometryAllowed, judgedHeader}
+use Rattle.layout.specs.Headers.{headerBytes, hashRange, judgedHeader}
 use Rattle.layout.specs.Tables.{active, tableMatches}
 use Rattle.layout.specs.Descriptors.{partitionFields, formAllowed, placesAllowed, judgedPartition}
 use Rattle.layout.specs.Opening.{judgedSlot, afterA, afterB, afterTable, afterHeader, opened}
@@ -192,6 +192,6 @@ guarantees image c e =
       b = second image (c .header) g (c .b) (k .table .second);
     }
 
--- the rule that active_table asks for
-pub opened-geometry : (image : List ℕ) (c : Container) → opened image ≡ Valid c → geometryAllowed (length image) (c .header) ≡ true
-opened-geometry image c e = header-checked (length image) (headerBytes image) (c .header) (checked image c e .header) .geometry
+-- an image opens as one container
+pub one-container : (image : List ℕ) (c d : Container) → opened image ≡ Valid c → opened image ≡ Valid d → c ≡ d
+one-container image c d p q = cc

@@ -7,10 +7,9 @@ use native.Mathlib.Omega.{arith}
 use lib.ListN.{length}
 use lib.Dec.{eqb}
 use Rattle.number.specs.declared.Range.{Range}
-use Rattle.number.specs.Ranges.{Apart, part}
+use Rattle.number.specs.Ranges.{part}
 use Rattle.number.proofs.ListLaws.{length-part}
-use Rattle.number.proofs.RangeLaws.{apart-swap}
-use Rattle.layout.specs.Headers.{front, geometryAllowed}
+use Rattle.layout.specs.Headers.{geometryAllowed}
 use Rattle.layout.specs.Tables.{active, inactive}
 use Rattle.layout.specs.Guarantees.{HeaderGuarantees, SlotGuarantees}
 use Rattle.layout.specs.declared.Header.{Header}
@@ -36,35 +35,12 @@ unfolding part
 part-length s r e = length-part s (r .offset) (r .size) e
 
 module _ (n : ℕ) (h : Header) (k : HeaderGuarantees n h) where
-  -- both have the tables' size
+  -- it has the tables' size, and lies in the image
   pub active-size : active h .size ≡ h .primary .size
   active-size = tables-either h (λ (r other : Range). r .size ≡ h .primary .size) refl (k .tableSizes)
 
-  pub inactive-size : inactive h .size ≡ h .primary .size
-  inactive-size = tables-either h (λ (r other : Range). other .size ≡ h .primary .size) (k .tableSizes) refl
-
-  -- both lie in the image, past its first 0x200 bytes
   pub active-ends : active h .offset + active h .size ≤ n
   active-ends = tables-either h (λ (r other : Range). r .offset + r .size ≤ n) (k .primaryInside) (k .secondaryInside)
-
-  pub inactive-ends : inactive h .offset + inactive h .size ≤ n
-  inactive-ends = tables-either h (λ (r other : Range). other .offset + other .size ≤ n) (k .secondaryInside) (k .primaryInside)
-
-  pub active-front : front .size ≤ active h .offset
-  active-front = tables-either h (λ (r other : Range). front .size ≤ r .offset) (k .primaryFront) (k .secondaryFront)
-
-  pub inactive-front : front .size ≤ inactive h .offset
-  inactive-front = tables-either h (λ (r other : Range). front .size ≤ other .offset) (k .secondaryFront) (k .primaryFront)
-
-  -- apart from each other and from every partition
-  pub active-inactive : Apart (active h) (inactive h)
-  active-inactive = tables-either h Apart (apart-swap (h .secondary) (h .primary) (k .tablesApart)) (k .tablesApart)
-
-  pub active-partition : (slot : Slot) → SlotGuarantees n h slot → Apart (active h) (slot .partition)
-  active-partition slot s = tables-either h (λ (r other : Range). Apart r (slot .partition)) (s .partitionPrimary) (s .partitionSecondary)
-
-  pub inactive-partition : (slot : Slot) → SlotGuarantees n h slot → Apart (inactive h) (slot .partition)
-  inactive-partition slot s = tables-either h (λ (r other : Range). Apart other (slot .partition)) (s .partitionSecondary) (s .partitionPrimary)
 
 -- the active table's bytes, and a descriptor's in it
 module _ (image : List ℕ) (h : Header) (k : HeaderGuarantees (length image) h) where

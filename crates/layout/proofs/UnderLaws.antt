@@ -1,14 +1,13 @@
 -- An image under another header is the image with that header in place of its own. Assumes nothing.
-use Prim.Native.Nat.{ℕ, _+_, _≤_}
+use Prim.Native.Nat.{ℕ, _≤_}
 use mathlib.Core.Bool.{Bool, true, false, cond}
 use mathlib.Core.List.{List}
 use mathlib.Core.Logic.{inr}
 use mathlib.Core.Path.{_≡_, refl, sym, ap, _∙_}
 use native.Mathlib.Omega.{arith}
-use lib.ListN.{length, getD}
+use lib.ListN.{length}
 use lib.Seq.{sets, length-sets, ext-getD}
 use lib.Dec.{eqb}
-use Rattle.number.specs.declared.Range.{Range}
 use Rattle.number.specs.Ranges.{part}
 use Rattle.number.proofs.ListLaws.{length-part, getD-part, sets-in, sets-out}
 use Rattle.layout.specs.Headers.{front, headerBytes, judgedHeader}
@@ -19,7 +18,7 @@ use Rattle.layout.specs.declared.Header.{Header}
 use Rattle.layout.specs.declared.JudgedHeader.{JudgedHeader}
 use Rattle.layout.specs.declared.JudgedHeader.the-variants.{GoodHeader, BadHeader}
 use Rattle.layout.specs.declared.Opened.{Opened}
-use Rattle.layout.specs.declared.Opened.the-variants.{Valid, Refused}
+use Rattle.layout.specs.declared.Opened.the-variants.{Refused}
 use Rattle.layout.specs.declared.Refusal.the-variants.{Length}
 use Rattle.layout.proofs.HeaderLaws.{header-checked, header-guarantees}
 use Rattle.layout.proofs.FrameLaws.{agree-part}

@@ -33,25 +33,8 @@ pub fn number_of(r: Refusal) -> u64
 pub fn carried_by(r: Refusal) -> u64
     ensures { λ n. ⌜ n ≡ carried r ⌝ }
 {
-    match r {
-        Refusal::Length => 0,
-        Refusal::Format => 0,
-        Refusal::Selection => 0,
-        Refusal::Geometry => 0,
-        Refusal::TableHash => 0,
-        Refusal::Descriptor => 0,
-        Refusal::Placement => 0,
-        Refusal::NoPartition => 0,
-        Refusal::OutOfRange => 0,
-        Refusal::Unverified(block) => block,
-        Refusal::SessionState => 0,
-        Refusal::Stale => 0,
-        Refusal::SignerKind => 0,
-        Refusal::Signature => 0,
-        Refusal::InvalidEntry => 0,
-        Refusal::NoSave => 0,
-        Refusal::BlankSize => 0,
-        Refusal::NothingToRevert => 0,
-        Refusal::DigestTooLong => 0,
-    }
+    let Refusal::Unverified(block) = r else {
+        return 0;
+    };
+    block
 }

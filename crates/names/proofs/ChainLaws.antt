@@ -25,14 +25,11 @@ use Rattle.names.specs.Listing.{Entry, file, seenFile}
 use Rattle.names.specs.Searching.{linked, along, linkAt, chainIn, chain, counted}
 use Rattle.number.proofs.MarkLaws.{left-fewer, left-le}
 use Rattle.names.proofs.EntryLaws.{admit-at}
+use Rattle.number.proofs.Tests.{or-right}
 
 along-cong : (l : Link) (f g : ℕ → Search) → ((x : ℕ) → l ≡ link.Next x → f x ≡ g x) → along l f ≡ along l g
 along-cong (link.Next x) f g h = h x refl
 along-cong (link.Last a) f g h = refl
-
-right-true : (a b : Bool) → b ≡ true → (a || b) ≡ true
-right-true true b h = refl
-right-true false b h = h
 
 module _ (s : Save) (level4 : List ℕ) (stands : List Bool) (parent : ℕ) (wanted : List ℕ) where
   -- what goes on was met: it is not 0, in the table, and read at its place
@@ -85,7 +82,7 @@ module _ (s : Save) (level4 : List ℕ) (stands : List Bool) (parent : ℕ) (wan
       go (yes e) = (g, ap (linkAt s level4 stands parent wanted false) e ∙ l, inr refl)
       go (no e) =
           let c = closed x (sym (ap (λ (b : Bool). b || seenFile met x) (ne-eqb x f e)) ∙ h) in
-          (c .0, c .1, inl (⊎-elim (λ m. right-true (eqb (c .0) f) (seenFile met (c .0)) m) (λ k. ap (λ (b : Bool). b || seenFile met (c .0)) (eq-eqb (c .0) f k)) (c .2)))
+          (c .0, c .1, inl (⊎-elim (λ m. or-right (eqb (c .0) f) (seenFile met (c .0)) m) (λ k. ap (λ (b : Bool). b || seenFile met (c .0)) (eq-eqb (c .0) f k)) (c .2)))
 
   -- f was met: the entries met lead to each other
   closed-again : (met : List Entry) (f : ℕ) → Closed met f → seenFile met f ≡ true

@@ -14,18 +14,11 @@ use Rattle.names.specs.Listing.{Entry, folder, file, listed, invalid, se
 use Rattle.names.specs.Reachable.{Subfolder, ofRoot, below, beside, Folder, File, inside, after, Once, Complete}
 use Rattle.names.proofs.EntryLaws.{admit-at}
 use Rattle.names.proofs.FuelLaws.{next-listed, joins-listed}
+use Rattle.number.proofs.Tests.{or-left, or-right}
 
 or-cases : (a b : Bool) → (a || b) ≡ true → (a ≡ true) ⊎ (b ≡ true)
 or-cases true b h = inl refl
 or-cases false b h = inr h
-
-or-right : (a b : Bool) → b ≡ true → (a || b) ≡ true
-or-right true b h = refl
-or-right false b h = h
-
-or-left : (a b : Bool) → a ≡ true → (a || b) ≡ true
-or-left true b h = refl
-or-left false b h = absurd (true≢false (sym h))
 
 module _ (s : Save) (level4 : List ℕ) (stands : List Bool) where
   -- a number is 0, or that of a folder in a list and not the root's

@@ -1,6 +1,6 @@
 -- The lent row: records of 24 bytes, each the kind (0 folder, 1 file) and the entry number, of 4 bytes each with the least significant first, and
 -- the 16 name bytes.
-use Prim.Native.Nat.{ℕ, _+_, _*_, _/_, _%_}
+use Prim.Native.Nat.{ℕ, _*_, _/_, _%_}
 use mathlib.Core.Bool.{cond}
 use mathlib.Core.List.{List, [], _∷_, _++_}
 use lib.Dec.{ltb}

@@ -3,7 +3,6 @@ use Prim.Native.Nat.{ℕ, _+_, _*_, _≤_, _<_}
 use mathlib.Core.Path.{_≡_}
 use mathlib.Core.List.{List, _++_}
 use lib.ListN.{length}
-use Rattle.number.specs.Bytes.{bytes}
 use Rattle.number.specs.Marks.{marked, Marks, left}
 use Rattle.names.specs.declared.Save.{Save}
 use Rattle.names.specs.declared.Table.{Table}

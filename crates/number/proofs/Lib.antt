@@ -1,5 +1,6 @@
 pub mod Tests
 pub mod ListLaws
+pub mod OrderLaws
 pub mod FieldLaws
 pub mod OverlayLaws
 pub mod FrameLaws

@@ -4,11 +4,11 @@ use mathlib.Core.List.{List, [], _∷_, _++_, append-nil}
 use mathlib.Core.Logic.{_≢_, _⊎_, inl, inr}
 use Prim.Native.Nat.{ℕ, zero, suc, _+_, _-_, _≤_, _<_, min}
 use native.Mathlib.Omega.{arith}
-use native.Mathlib.Nat.{add-zero}
+use native.Mathlib.Nat.{add-zero, zero-add}
 use native.Mathlib.Numerals.{add-one}
 use native.Mathlib.Decide.{ℕ-discrete, decLt}
 use lib.ListN.{length, getD, take, drop, set, replicate, length-set, length-take, length-drop, length-append, length-replicate, replicate-append-replicate, drop-of-length-le}
-use lib.Seq.{ext-getD, getD-take, getD-drop, getD-set-same, getD-set-other, sets, sets-eq, length-sets, drop-cons, drop-length, drop-at, take-at, take-nil, take-all}
+use lib.Seq.{ext-getD, getD-take, getD-drop, getD-set-same, getD-set-other, sets, sets-eq, length-sets, drop-cons, drop-length, drop-at, take-at, set-at, take-nil, take-all}
 use lib.Dec.{eqb}
 use mathlib.Core.Bool.{Bool, true, false, _&&_, and-assoc, true≢false}
 use borrow.Author.Tests.{eq-eqb, eqb-true}
@@ -134,14 +134,18 @@ pub sets-append : (s : List ℕ) (x y : ℕ) (l m : List ℕ) → y ≡ x + leng
 sets-append s x y [] m e = let d : y ≡ x = omega arith in rw d
 sets-append s x y (v ∷ l) m e = sets-append (set s x v) (suc x) y l m (omega arith)
 
-pub sets-in : (s : List ℕ) (x : ℕ) (l : List ℕ) (m : ℕ) → x + length l ≤ length s → m < length l → getD (sets s x l) (x + m) 0 ≡ getD l m 0
-sets-in s x [] m h k = absurd (omega arith)
-sets-in s x (v ∷ vs) zero h k =
+-- a byte of the run; what would lie past the list's end is not stored
+pub sets-at : (s : List ℕ) (x : ℕ) (l : List ℕ) (m : ℕ) → x + m < length s → m < length l → getD (sets s x l) (x + m) 0 ≡ getD l m 0
+sets-at s x [] m h k = absurd (omega arith)
+sets-at s x (v ∷ vs) zero h k =
     ap (λ (y : ℕ). getD (sets (set s x v) (suc x) vs) y 0) (add-zero x)
     ∙ sets-out (set s x v) (suc x) vs x (inl (omega arith)) ∙ getD-set-same s x v 0 (omega arith)
-sets-in s x (v ∷ vs) (suc m) h k =
+sets-at s x (v ∷ vs) (suc m) h k =
     let e : x + suc m ≡ suc x + m = omega arith in
-    ap (λ (y : ℕ). getD (sets (set s x v) (suc x) vs) y 0) e ∙ sets-in (set s x v) (suc x) vs m (rw length-set (omega arith)) (omega arith)
+    ap (λ (y : ℕ). getD (sets (set s x v) (suc x) vs) y 0) e ∙ sets-at (set s x v) (suc x) vs m (rw length-set (omega arith)) (omega arith)
+
+pub sets-in : (s : List ℕ) (x : ℕ) (l : List ℕ) (m : ℕ) → x + length l ≤ length s → m < length l → getD (sets s x l) (x + m) 0 ≡ getD l m 0
+sets-in s x l m h k = sets-at s x l m (omega arith) k
 
 -- as a loop makes them: nothing stored yet, one more, all
 pub sets-start : (s : List ℕ) (x : ℕ) (l : List ℕ) → sets s x l ≡ sets s (x + 0) (drop 0 l)
@@ -290,12 +294,34 @@ copied-sets s source target n h k =
     apart i (inl p) m q e = omega arith
     apart i (inr p) m q e = omega arith
 
--- the front of zeros is zeros
-pub take-zeros : (n k : ℕ) → k ≤ n → _≡_ {A = List ℕ} (take k (replicate n 0)) (replicate k 0)
-take-zeros n k h =
+-- ---- zeros
+
+zeros-apart : (n k : ℕ) → k ≤ n → _≡_ {A = List ℕ} (replicate n 0) (replicate k 0 ++ replicate (n - k) 0)
+zeros-apart n k h =
     let e : n ≡ k + (n - k) = omega arith in
-    ap (λ (j : ℕ). take k (replicate j 0)) e ∙ ap (take k) (sym (replicate-append-replicate k (n - k) 0))
-    ∙ take-at (replicate k 0) (replicate (n - k) 0) k (length-replicate k 0)
+    ap (λ (j : ℕ). replicate j 0) e ∙ sym (replicate-append-replicate k (n - k) 0)
+
+-- the front of zeros is zeros, and so is what follows it
+pub take-zeros : (n k : ℕ) → k ≤ n → _≡_ {A = List ℕ} (take k (replicate n 0)) (replicate k 0)
+take-zeros n k h = ap (take k) (zeros-apart n k h) ∙ take-at (replicate k 0) (replicate (n - k) 0) k (length-replicate k 0)
+
+drop-zeros : (n k : ℕ) → k ≤ n → _≡_ {A = List ℕ} (drop k (replicate n 0)) (replicate (n - k) 0)
+drop-zeros n k h = ap (drop k) (zeros-apart n k h) ∙ drop-at (replicate k 0) (replicate (n - k) 0) k (length-replicate k 0)
+
+-- a run at the front of n zeros, whatever n is: a block of a hash, of a cipher, of a signature
+pub over-zeros : (n : ℕ) (run : List ℕ) → length run ≤ n → sets (replicate n 0) 0 run ≡ run ++ replicate (n - length run) 0
+over-zeros n run h =
+    sets-eq run (replicate n 0) 0 (omega (arith, length-replicate {A = ℕ} n 0))
+    ∙ ap (λ (k : ℕ). run ++ drop k (replicate n 0)) (zero-add (length run)) ∙ ap (λ (z : List ℕ). run ++ z) (drop-zeros n (length run) h)
+
+-- and a byte right after it
+pub byte-over-zeros : (n : ℕ) (run : List ℕ) (v : ℕ) → length run < n
+    → set (run ++ replicate (n - length run) 0) (length run) v ≡ run ++ v ∷ replicate (n - 1 - length run) 0
+byte-over-zeros n run v h =
+    let e : n - length run ≡ suc (n - 1 - length run) = omega arith in
+    rw e (set-at run 0 (replicate (n - 1 - length run) 0) v (length run) refl)
+
+-- ---- runs that fill a list
 
 -- a run as long as the list takes its place
 pub sets-whole : (s l : List ℕ) → length l ≡ length s → sets s 0 l ≡ l

@@ -1,11 +1,10 @@
 -- Tests: what a Bool-valued test says, and tests that say the same. Assumes nothing.
-use Prim.Native.Nat.{ℕ, _+_, _-_, _*_, _/_, _%_, _≤_, _<_}
-use mathlib.Core.Bool.{Bool, true, false, not, cond, _&&_, _||_, true≢false}
-use mathlib.Core.Path.{_≡_, refl, sym, ap, ap₂, _∙_}
-use lib.Dec.{leb, ltb, eqb}
-use borrow.Author.Tests.{leb-true, leb-false, le-leb, lt-leb, eq-eqb, ne-eqb, not-true, not-false}
+use Prim.Native.Nat.{ℕ, _≤_, _<_}
+use mathlib.Core.Bool.{Bool, true, false, not, _&&_, _||_, true≢false}
+use mathlib.Core.Path.{_≡_, refl, sym, _∙_}
+use lib.Dec.{leb}
+use borrow.Author.Tests.{leb-true, leb-false, le-leb, lt-leb, not-true, not-false}
 use native.Mathlib.Nat.{not-le-of-lt}
-use native.Mathlib.Omega.{arith}
 
 -- two orders that imply each other have one test
 pub leb-same : (a b c d : ℕ) → (a ≤ b → c ≤ d) → (c ≤ d → a ≤ b) → leb a b ≡ leb c d
@@ -29,14 +28,15 @@ failed p q = sym p ∙ not-true _ q
 pub passed : {r b : Bool} → r ≡ b → not r ≡ false → b ≡ true
 passed p q = sym p ∙ not-false _ q
 
--- the same of a number r that was read, which is the field x, and was compared with k
-pub is : {r x : ℕ} (k : ℕ) → r ≡ x → r ≡ k → eqb x k ≡ true
-is k p q = eq-eqb _ k (sym p ∙ q)
+-- a disjunction of which a part holds, and the parts of one that fails
+pub or-left : (a b : Bool) → a ≡ true → a || b ≡ true
+or-left true b e = refl
+or-left false b e = absurd (true≢false (sym e))
 
-pub is-not : {r x : ℕ} (k : ℕ) → r ≡ x → (r ≡ k → ⊥) → eqb x k ≡ false
-is-not k p q = ne-eqb _ k (λ e. q (p ∙ e))
+pub or-right : (a b : Bool) → b ≡ true → a || b ≡ true
+or-right true b e = refl
+or-right false b e = e
 
--- the parts of a disjunction that fails
 pub or-left-false : (a b : Bool) → a || b ≡ false → a ≡ false
 or-left-false true b e = e
 or-left-false false b e = refl

@@ -1,5 +1,5 @@
 -- Little-endian fields of a list of bytes. Past the list's end a byte is 0.
-use Prim.Native.Nat.{ℕ, _+_, _*_, _^_}
+use Prim.Native.Nat.{ℕ, _+_, _*_}
 use mathlib.Core.List.{List}
 use lib.ListN.{getD}
 

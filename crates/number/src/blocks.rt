@@ -1,7 +1,7 @@
 // A level's blocks: how many there are, how large they are, and in which one a byte lies.
 use super::Level;
 ghost use mathlib.Core.Path.{_≡_};
-ghost use Prim.Native.Nat.{ℕ, _*_, _^_, _<_, _≤_, min, max};
+ghost use Prim.Native.Nat.{_*_, _<_, _≤_, min, max};
 ghost use Rattle.number.specs.Blocks.{blockSize, blocks, blockOf, blockLength};
 
 pub fn block_size(l: Level) -> u64

@@ -1,6 +1,6 @@
 // Little-endian fields at a place of a slice. Past the slice's end a byte reads as 0.
 ghost use mathlib.Core.Path.{_≡_};
-ghost use Prim.Native.Nat.{ℕ, _+_, _<_, _^_};
+ghost use Prim.Native.Nat.{_+_, _<_, _^_};
 ghost use lib.ListN.{getD};
 ghost use Rattle.number.specs.Fields.{le16, le32, le64};
 

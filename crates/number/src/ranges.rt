@@ -3,9 +3,8 @@
 use super::Range;
 ghost use mathlib.Core.Path.{_≡_};
 ghost use mathlib.Core.List.{[], _∷_};
-ghost use Prim.Native.Nat.{ℕ, _*_, _^_, _<_, _+_, _≤_};
-ghost use lib.ListN.{length};
-ghost use Rattle.number.specs.Ranges.{inside, apart, fits, clear, placed, twice, part};
+ghost use Prim.Native.Nat.{_*_, _^_, _<_, _+_};
+ghost use Rattle.number.specs.Ranges.{inside, apart, fits, placed, twice, part};
 
 // The size bytes from offset on end by whole.
 pub fn lies_inside(offset: u64, size: u64, whole: u64) -> bool

@@ -22,13 +22,12 @@ use Rattle.names.specs.declared.Save.{Save}
 use Rattle.names.specs.declared.SaveOpened.{SaveOpened}
 use Rattle.names.specs.declared.SaveOpened.the-variants as entered
 use Rattle.names.specs.declared.Walked.{Walked}
-use Rattle.names.specs.Listing.{Outcome, listed, invalid, unverified, listing}
+use Rattle.names.specs.Listing.{Outcome, listed, invalid, unverified}
 use Rattle.names.specs.Opening.{openSave}
 use Rattle.names.specs.Walks.{answerOf, Listable, Searchable}
 use Rattle.number.proofs.MarkLaws.{zeros-unmarked}
 use Rattle.names.proofs.OpenLaws.{valid-listable, valid-searchable}
 use Rattle.entries.specs.Known.{Legible}
-use Rattle.entries.proofs.ReadLaws.{length-level4}
 use Rattle.steps.specs.Calls.{refusalOf}
 use Rattle.save.specs.declared.Listed.{Listed}
 use Rattle.save.specs.declared.Listed.the-variants as names
@@ -36,6 +35,8 @@ use Rattle.save.specs.declared.Sought.{Sought}
 use Rattle.save.specs.declared.Sought.the-variants as sought
 use Rattle.save.specs.Calls.{isDisa, holdsSave, Names, listedOf, namesIn, namesOf, listNames, fileIn, fileOf, findFile}
 use Rattle.save.specs.Answers.{listedBy}
+use Rattle.steps.proofs.CallLaws.{refusal-is}
+use Rattle.views.proofs.VersionLaws.{version-size}
 
 -- ---- which containers hold a save
 
@@ -79,13 +80,13 @@ module _ (view : View) (image : List ℕ) (e : SaveOpened) (h : e ≡ openSave (
 
   pub save-listable : (s : Save) → e ≡ entered.Valid s → ViewRules view (length image) → view .external ≡ false → Listable s (view .level4 .log) (view .level4 .size)
   save-listable s q r x =
-      valid-listable (versionOf view image .bytes) (versionOf view image .verified) (view .level4 .log) (view .level4 .size) (length-level4 view image) s (sym h ∙ q)
+      valid-listable (versionOf view image .bytes) (versionOf view image .verified) (view .level4 .log) (view .level4 .size) (version-size view image) s (sym h ∙ q)
       (internal-small view (length image) r x)
 
   pub save-searchable : (s : Save) → e ≡ entered.Valid s
       → Searchable s (view .level4 .log) (view .level4 .size) × (0 < s .buckets) × (s .hash + 4 * s .buckets ≤ view .level4 .size)
   save-searchable s q =
-      valid-searchable (versionOf view image .bytes) (versionOf view image .verified) (view .level4 .log) (view .level4 .size) (length-level4 view image) s (sym h ∙ q)
+      valid-searchable (versionOf view image .bytes) (versionOf view image .verified) (view .level4 .log) (view .level4 .size) (version-size view image) s (sym h ∙ q)
 
 -- a listing's answer is the walk's
 listed-is : (o : Outcome) → listedBy (answerOf o) ≡ listedOf o
@@ -97,9 +98,6 @@ pub walk-listed : (o : Outcome) (w : Walked) (r : Listed) → r ≡ listedBy w �
 walk-listed o w r p q = p ∙ ap listedBy q ∙ listed-is o
 
 -- ---- the calls
-
-refusal-is : (a : Opened) (r x : Refusal) → a ≡ opening.Refused r → x ≡ refusalOf a → x ≡ r
-refusal-is a r x e h = h ∙ ap refusalOf e
 
 -- a call's answer, and the row that it leaves
 abbrev pub Leaves : Names → Listed → (row : List ℕ) → Type 0

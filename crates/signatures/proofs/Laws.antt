@@ -1,6 +1,6 @@
 -- Signed opening, as the functions cite it, and what other crates may cite of it. Assumes nothing.
-use mathlib.Core.Path.{_≡_, refl, sym, ap, _∙_}
-use mathlib.Core.Bool.{Bool, true, false, cond}
+use mathlib.Core.Path.{_≡_, sym, _∙_}
+use mathlib.Core.Bool.{Bool, true, false}
 use mathlib.Core.List.{List}
 use Prim.Native.Nat.{ℕ}
 use lib.Dec.{leb}
@@ -10,7 +10,6 @@ use Rattle.number.specs.Ranges.{part}
 use Rattle.number.specs.Bytes.{sameBytes}
 use Rattle.number.proofs.Tests.{and-both}
 use Rattle.cmac.proofs.Laws.{length-cmac}
-use Rattle.sha256.specs.Sha256.{sha256}
 use Rattle.layout.specs.declared.Opened.{Opened}
 use Rattle.layout.specs.declared.Opened.the-variants as opening
 use Rattle.layout.specs.declared.Outcome.{Outcome}
@@ -27,10 +26,9 @@ use Rattle.layout.specs.Opening.{opened}
 use Rattle.layout.specs.Guarantees.{Guarantees}
 use Rattle.layout.proofs.HeaderLaws.{one-kind}
 use Rattle.signing.specs.declared.Signer.{Signer}
-use Rattle.signing.specs.Blocks.{signingBlock}
-use Rattle.signing.specs.Calls.{Answer, Signs, Refused, signedAs, signed, outcomeOf}
+use Rattle.signing.specs.Calls.{Refused, signedAs, signed, outcomeOf}
 use Rattle.signing.proofs.AnswerLaws.{refused-is, accepted-is}
-use Rattle.signatures.specs.Signatures.{signatureRange, signature, afterSigner, comesFirst, openedSigned}
+use Rattle.signatures.specs.Signatures.{signatureRange, signature, comesFirst, openedSigned}
 
 pub length-signature : (key : List ℕ) (signer : Signer) (header : List ℕ) → length (signature key signer header) ≡ 16
 unfolding signature

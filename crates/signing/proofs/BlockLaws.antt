@@ -4,9 +4,8 @@ use mathlib.Core.Bool.{Bool, true, false}
 use mathlib.Core.List.{List, [], _∷_, _++_}
 use Prim.Native.Nat.{ℕ, _+_, _-_, _≤_}
 use native.Mathlib.Omega.{arith}
-use native.Mathlib.Nat.{zero-add}
-use lib.ListN.{length, take, drop, replicate, length-append, length-replicate, replicate-append-replicate}
-use lib.Seq.{sets, sets-eq, drop-at, take-at}
+use lib.ListN.{length, take, replicate, length-append, length-replicate}
+use lib.Seq.{sets, take-at}
 use Rattle.number.proofs.ListLaws.{sets-append, sets-two}
 use Rattle.sha256.specs.Sha256.{sha256}
 use Rattle.sha256.proofs.Laws.{length-sha256}
@@ -89,16 +88,6 @@ module _ (signer : Signer) (shape : Shape) (s : ShapeOf signer shape) where
         ∙ sym (length-append (shape .letters ++ laidOut (shape .fields)) (tailOf (shape .hashed) header)) ∙ ap length (sym made-of)
 
 -- ---- the zeros after it
-
-drop-zeros : (n k : ℕ) → k ≤ n → _≡_ {A = List ℕ} (drop k (replicate n 0)) (replicate (n - k) 0)
-drop-zeros n k h =
-    let e : n ≡ k + (n - k) = omega arith in
-    ap (λ (j : ℕ). drop k (replicate j 0)) e ∙ ap (drop k) (sym (replicate-append-replicate k (n - k) 0))
-    ∙ drop-at (replicate k 0) (replicate (n - k) 0) k (length-replicate k 0)
-
-pub padded : (l : List ℕ) → length l ≤ 284 → sets (replicate 284 0) 0 l ≡ l ++ replicate (284 - length l) 0
-padded l h =
-    sets-eq l (replicate 284 0) 0 (omega (arith, h, length-replicate {A = ℕ} 284 0)) ∙ ap (λ (t : List ℕ). l ++ t) (drop-zeros 284 (0 + length l) (omega arith) ∙ ap (λ (k : ℕ). replicate (284 - k) 0) (zero-add (length l)))
 
 -- the block out of its array again
 pub taken : (l bytes : List ℕ) (n : ℕ) → bytes ≡ l ++ replicate (284 - length l) 0 → n ≡ length l → take n bytes ≡ l

@@ -1,5 +1,4 @@
 -- The calls that a signing box makes on an image: only 1, 2 and 15 apply, in that order.
-use mathlib.Core.Path.{_≡_}
 use mathlib.Core.Bool.{Bool, true, false, cond}
 use mathlib.Core.List.{List, _++_}
 use Prim.Native.Nat.{ℕ, _-_}

@@ -1,7 +1,5 @@
 -- What the machinery of this crate gives.
 use mathlib.Core.Path.{_≡_}
-use Prim.Native.Nat.{ℕ, _≤_}
-use lib.ListN.{length}
 use Rattle.signing.specs.declared.Signer.{Signer}
 use Rattle.signing.specs.declared.Shape.{Shape}
 use Rattle.signing.specs.Blocks.{laidOut, letters, fields, hashed}

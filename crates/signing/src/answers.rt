@@ -11,7 +11,6 @@ use limits::length_allowed;
 ghost use mathlib.Core.Path.{_≡_};
 ghost use mathlib.Core.List.{List};
 ghost use Prim.Native.Nat.{ℕ};
-ghost use Rattle.signing.specs.Blocks.{kindOf};
 ghost use Rattle.signing.specs.Calls.{sameKind, signedAs, signed, outcomeOf};
 
 // Two kinds are one.

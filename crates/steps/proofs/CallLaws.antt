@@ -11,7 +11,7 @@ use Rattle.layout.specs.declared.Container.{Container}
 use Rattle.layout.specs.declared.Opened.{Opened}
 use Rattle.layout.specs.declared.Opened.the-variants as opening
 use Rattle.layout.specs.declared.Refusal.{Refusal}
-use Rattle.layout.specs.declared.Refusal.the-variants.{NoPartition, SessionState, Stale}
+use Rattle.layout.specs.declared.Refusal.the-variants.{NoPartition}
 use Rattle.layout.specs.Opening.{opened}
 use Rattle.layout.specs.Guarantees.{Guarantees}
 use Rattle.layout.proofs.GuaranteeLaws.{guarantees}
@@ -19,23 +19,21 @@ use Rattle.ivfc.specs.declared.View.{View}
 use Rattle.ivfc.specs.Views.{levelOf, verified}
 use Rattle.ivfc.specs.Verified.{countOf}
 use Rattle.ivfc.specs.Rules.{ViewRules}
-use Rattle.views.specs.Places.{partitions, committedView, stagedView}
+use Rattle.views.specs.Places.{partitions, committedView}
 use Rattle.views.specs.Rules.{PlacesFit}
-use Rattle.views.proofs.PlaceLaws.{committed-rules, staged-rules}
+use Rattle.views.proofs.PlaceLaws.{committed-rules}
 use Rattle.views.proofs.FitLaws.{places-fit}
 use Rattle.layout.specs.declared.Outcome.{Outcome}
 use Rattle.layout.specs.declared.Outcome.the-variants as outcome
 use Rattle.steps.specs.declared.Verdict.{Verdict}
 use Rattle.steps.specs.declared.Verdict.the-variants as verdict
 use Rattle.steps.specs.declared.Count.the-variants as count
-use Rattle.steps.specs.declared.Session.{Session}
 use Rattle.steps.specs.Reading.{readFrom, verdictOn, countIn}
-use Rattle.steps.specs.Sessions.{current}
-use Rattle.steps.specs.Calls.{refusalOf, readCommitted, readStaged, isVerified, countVerified}
+use Rattle.steps.specs.Calls.{refusalOf, readCommitted, isVerified, countVerified}
 use Rattle.steps.proofs.ReadLaws.{Leaves}
 
 -- the refusal that a call hands on
-refusal-is : (a : Opened) (r x : Refusal) → a ≡ opening.Refused r → x ≡ refusalOf a → x ≡ r
+pub refusal-is : (a : Opened) (r x : Refusal) → a ≡ opening.Refused r → x ≡ refusalOf a → x ≡ r
 refusal-is a r x e h = h ∙ ap refusalOf e
 
 module _ (image : List ℕ) (a : Opened) (o : a ≡ opened image) where

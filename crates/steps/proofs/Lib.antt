@@ -1,3 +1,4 @@
+pub mod BelowLaws
 pub mod KeptLaws
 pub mod BeginLaws
 pub mod WriteLaws

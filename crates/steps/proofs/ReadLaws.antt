@@ -4,7 +4,7 @@ use mathlib.Core.Bool.{Bool, true, false}
 use mathlib.Core.List.{List}
 use mathlib.Core.Path.{_≡_, refl, sym, ap, _∙_}
 use native.Mathlib.Omega.{arith}
-use lib.Dec.{leb, ltb}
+use lib.Dec.{leb}
 use lib.ListN.{length}
 use borrow.Author.Tests.{ne-eqb, eq-eqb, lt-ltb, le-ltb, leb-true}
 use Rattle.number.specs.declared.Level.{Level}
@@ -17,7 +17,6 @@ use Rattle.layout.specs.declared.Refusal.the-variants.{OutOfRange, Unverified}
 use Rattle.ivfc.specs.declared.View.{View}
 use Rattle.ivfc.specs.Views.{levelOf, contentOf, verified}
 use Rattle.ivfc.specs.Verified.{firstNot}
-use Rattle.ivfc.specs.Rules.{ViewRules}
 use Rattle.layout.specs.declared.Outcome.{Outcome}
 use Rattle.layout.specs.declared.Outcome.the-variants as outcome
 use Rattle.steps.specs.declared.Verdict.the-variants as verdict
@@ -87,18 +86,6 @@ accepted-inside view image place n e = go (leb (place + n) (view .level4 .size))
 -- what a read leaves, as its two parts
 abbrev pub Leaves : Read → Outcome → (buffer : List ℕ) → Type 0
 Leaves read answer buffer = (answer ≡ read .outcome) × (buffer ≡ read .buffer)
-
--- level 4's logarithm and size are small
-pub log4-small : (view : View) (n : ℕ) → ViewRules view n → view .level4 .log < 64
-unfolding levelOf
-log4-small view n rules = omega (arith, rules .hash .logs 4 (omega arith))
-
-pub size4-small : (view : View) (n : ℕ) → ViewRules view n → view .level4 .size ≤ 0x4000000
-size4-small view n rules = go (view .external) refl
-  where
-    go : (e : Bool) → view .external ≡ e → view .level4 .size ≤ 0x4000000
-    go true e = omega (arith, rules .outer4 e, rules .tree .limit)
-    go false e = omega (arith, rules .inner4 e, rules .tree .inside3, rules .tree .limit)
 
 module _ (view : View) (image : List ℕ) (place n : ℕ) where
   pub in-level : inside place n (view .level4 .size) ≡ true → place + n ≤ view .level4 .size

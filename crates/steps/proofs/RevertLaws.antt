@@ -12,9 +12,7 @@ use Rattle.layout.specs.Opening.{opened, openedUnder}
 use Rattle.layout.proofs.UnderLaws.{opened-under}
 use Rattle.commits.specs.Committing.{revertedImage}
 use Rattle.steps.specs.Sessions.{isValid, revertible}
-
-left-no : (a b : Bool) → a ≡ false → (a && b) ≡ false
-left-no a b e = rw e
+use Rattle.number.proofs.Tests.{left-fails}
 
 left-yes : (a b : Bool) → a ≡ true → (a && b) ≡ b
 left-yes a b e = rw e
@@ -22,7 +20,7 @@ left-yes a b e = rw e
 module _ (image former later : List ℕ) where
   pub header-changed : sameBytes (headerBytes image) later ≡ false → false ≡ revertible image former later
   unfolding revertible
-  header-changed e = sym (left-no (sameBytes (headerBytes image) later) (isValid (opened (revertedImage image former))) e)
+  header-changed e = sym (left-fails (sameBytes (headerBytes image) later) (isValid (opened (revertedImage image former))) e)
 
   pub header-same : sameBytes (headerBytes image) later ≡ true → 0x200 ≤ length image → length former ≡ 0x100 → (answer : Opened) → answer ≡ openedUnder former image
       → (valid : Bool) → valid ≡ isValid answer → valid ≡ revertible image former later

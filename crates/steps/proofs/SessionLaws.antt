@@ -9,7 +9,7 @@ use Rattle.layout.specs.declared.Container.{Container}
 use Rattle.layout.specs.declared.Opened.{Opened}
 use Rattle.layout.specs.declared.Opened.the-variants as opening
 use Rattle.layout.specs.declared.Refusal.{Refusal}
-use Rattle.layout.specs.declared.Refusal.the-variants.{NoPartition, SessionState, Stale, NothingToRevert}
+use Rattle.layout.specs.declared.Refusal.the-variants.{NoPartition, SessionState}
 use Rattle.layout.specs.Headers.{headerBytes}
 use Rattle.layout.specs.Opening.{opened}
 use Rattle.layout.specs.Guarantees.{Guarantees}
@@ -27,13 +27,12 @@ use Rattle.layout.specs.declared.Outcome.the-variants as outcome
 use Rattle.steps.specs.declared.Ending.the-variants as ending
 use Rattle.steps.specs.declared.Session.{Session}
 use Rattle.steps.specs.declared.Step.{Step}
-use Rattle.steps.specs.Sessions.{idle, begunWith, remembering, begunImage, current, writeOutcome, revertible}
+use Rattle.steps.specs.Sessions.{idle, begunWith, remembering, begunImage, writeOutcome}
 use Rattle.signing.specs.declared.Signer.{Signer}
-use Rattle.signing.specs.Blocks.{signingBlock}
 use Rattle.signing.specs.Calls.{Answer, signed, outcomeOf}
 use Rattle.signing.proofs.AnswerLaws.{refused-is, accepted-is}
 use Rattle.commits.specs.Committing.{committedImage, committedSigned, revertedImage, revertedSigned}
-use Rattle.steps.specs.Calls.{refusalOf, After, Stepped, unchanged, done, finished, leaving, begin, writeTo, write, commit, commitSigned, abandon, Abandoned, beginIn, inSession, writeOn, commitOn, commitBy, landed, reverting, revert, revertBy, revertSigned}
+use Rattle.steps.specs.Calls.{refusalOf, After, Stepped, unchanged, done, finished, leaving, begin, writeTo, abandon, Abandoned, beginIn, writeOn, commitOn, commitBy, revertBy}
 use Rattle.steps.proofs.WriteLaws.{write-rules}
 
 -- which arm of a test is taken

@@ -14,7 +14,7 @@ use borrow.Author.Tests.{eq-eqb, ne-eqb, eqb-true, le-leb, lt-leb, lt-ltb, le-lt
 use Rattle.number.specs.Ranges.{part, Apart}
 use Rattle.number.specs.Bytes.{within, sameBytes}
 use Rattle.number.proofs.ListLaws.{length-part, getD-part, part-same, same-is, same-refl}
-use Rattle.number.proofs.Tests.{and-left, and-right, left-fails, right-fails}
+use Rattle.number.proofs.Tests.{left-fails, right-fails}
 use Rattle.layout.specs.declared.Slot.{Slot}
 use Rattle.layout.specs.declared.Partition.{Partition}
 use Rattle.layout.specs.declared.Container.{Container}
@@ -26,6 +26,7 @@ use Rattle.views.proofs.PlaceLaws.{Present, present, active-table, inactive-tab
 use Rattle.steps.specs.declared.Session.{Session}
 use Rattle.steps.specs.Sessions.{selectorPlace, selectorFlipped, stagedTable, inMaster, inSomeMaster, allBelow, tableStaged, current}
 use Rattle.steps.specs.Rules.{HoldsMarks}
+use Rattle.steps.proofs.BelowLaws.{below-all, all-below}
 
 -- ---- a test of each number below a bound
 
@@ -33,20 +34,6 @@ pub all-same : (P Q : ℕ → Bool) (n : ℕ) → ((i : ℕ) → i < n → P i �
 unfolding allBelow
 all-same P Q zero h = refl
 all-same P Q (suc n) h = ap₂ _&&_ (all-same P Q n (λ i k. h i (omega arith))) (h n (omega arith))
-
-all-of : (P : ℕ → Bool) (n : ℕ) → ((i : ℕ) → i < n → P i ≡ true) → allBelow n P ≡ true
-unfolding allBelow
-all-of P zero h = refl
-all-of P (suc n) h = rw (all-of P n (λ i k. h i (omega arith)), h n (omega arith))
-
-each-of : (P : ℕ → Bool) (n : ℕ) → allBelow n P ≡ true → (i : ℕ) → i < n → P i ≡ true
-unfolding allBelow
-each-of P zero e i h = absurd (omega arith)
-each-of P (suc n) e i h = go (ℕ-discrete i n) (each-of P n (and-left (allBelow n P) (P n) e) i)
-  where
-    go : Dec (i ≡ n) → (i < n → P i ≡ true) → P i ≡ true
-    go (yes d) below = ap P d ∙ and-right (allBelow n P) (P n) e
-    go (no d) below = below (omega arith)
 
 all-cut : (P : ℕ → Bool) (x y : ℕ) → allBelow (x + y) P ≡ allBelow x P && allBelow y (λ k. P (x + k))
 unfolding allBelow
@@ -101,11 +88,11 @@ run-compared u t a b h n =
         let d : a + (i - a) ≡ i = omega arith in
         eqb-true (getD u i 0) (getD t i 0)
         (ap (λ (j : ℕ). eqb (getD u j 0) (getD t j 0)) (sym d)
-        ∙ each-of (λ (k : ℕ). eqb (getD u (a + k) 0) (getD t (a + k) 0)) (b - a) e (i - a) (omega arith))
+        ∙ all-below (b - a) (λ (k : ℕ). eqb (getD u (a + k) 0) (getD t (a + k) 0)) e (i - a) (omega arith))
 
     go : (x : Bool) → sameBytes (take (b - a) (drop a u)) (take (b - a) (drop a t)) ≡ x
         → (y : Bool) → between (λ (i : ℕ). eqb (getD u i 0) (getD t i 0)) a b ≡ y → x ≡ y
-    go true p y q = sym (all-of _ (b - a) (byte p)) ∙ q
+    go true p y q = sym (below-all (b - a) _ (byte p)) ∙ q
     go false p false q = refl
     go false p true q =
         sym p ∙ ap (λ (s : List ℕ). sameBytes s (take (b - a) (drop a t))) (part-same u t a (b - a) n (equal q)) ∙ same-refl (take (b - a) (drop a t))
@@ -122,7 +109,7 @@ module _ (P Q : ℕ → Bool) (start s m e end : ℕ) (front : start ≤ s) (beh
       (run (s + 1) m (λ i h k. plain i (omega arith) (omega arith) (λ d. omega arith) (inl k)))
       ∙ sym (between-cut Q start (s + 1) m (omega arith) (omega arith))
       ∙ sym (and-true (between Q start m))
-      ∙ ap (λ (t : Bool). between Q start m && t) (sym (all-of (λ (k : ℕ). Q (m + k)) (e - m) (λ k l. free (m + k) (omega arith) (omega arith))))
+      ∙ ap (λ (t : Bool). between Q start m && t) (sym (below-all (e - m) (λ (k : ℕ). Q (m + k)) (λ k l. free (m + k) (omega arith) (omega arith))))
       ∙ sym (between-cut Q start m e (omega arith) long))
       (run e end (λ i h k. plain i (omega arith) k (λ d. omega arith) (inr h)))
       ∙ sym (between-cut Q start e end (omega arith) last)

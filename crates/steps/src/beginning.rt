@@ -10,7 +10,7 @@ use stores::staging::store;
 use views::places::partition_of;
 use views::places::slot_of;
 ghost use mathlib.Core.Path.{_≡_};
-ghost use Prim.Native.Nat.{ℕ, _+_, _-_, _<_};
+ghost use Prim.Native.Nat.{_+_, _-_, _<_};
 ghost use lib.ListN.{set};
 ghost use Rattle.layout.specs.Tables.{inactive};
 ghost use Rattle.layout.specs.declared.Opened.the-variants.{Valid};

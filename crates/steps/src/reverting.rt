@@ -5,7 +5,6 @@ use number::runs::same_bytes;
 ghost use mathlib.Core.Path.{_≡_};
 ghost use Prim.Native.Nat.{_≤_};
 ghost use lib.ListN.{length};
-ghost use Rattle.layout.specs.Opening.{openedUnder};
 ghost use Rattle.steps.specs.Sessions.{isValid, revertible};
 
 // Opening's answer is that the image opens.

@@ -2,7 +2,7 @@
 -- Assumes nothing.
 use mathlib.Core.Path.{_≡_, refl, sym, ap, _∙_}
 use mathlib.Core.List.{List}
-use mathlib.Core.Bool.{Bool, true, false, not, _&&_, cond, and-false, and-true}
+use mathlib.Core.Bool.{Bool, true, false, _&&_, cond, and-false, and-true}
 use mathlib.Core.Logic.{_≢_, _⊎_, inl, inr}
 use Prim.Native.Nat.{ℕ, zero, suc, _+_, _-_, _*_, _≤_, _<_}
 use native.Mathlib.Omega.{arith}
@@ -15,8 +15,7 @@ use Rattle.number.specs.Bytes.{Outside, sameBytes}
 use Rattle.number.proofs.Tests.{left-fails, right-fails}
 use Rattle.number.proofs.ListLaws.{between-or-not, bytes-is, same-refl}
 use Rattle.number.proofs.BlockLaws.{block-below, exists-byte, block-inside}
-use Rattle.sha256.specs.Sha256.{sha256}
-use Rattle.ivfc.specs.Blocks.{block, entry, parent}
+use Rattle.ivfc.specs.Blocks.{entry, parent}
 use Rattle.ivfc.specs.Verified.{zeroEntry, vouches, matches, verified}
 use Rattle.ivfc.specs.Rules.{TreeRules}
 use Rattle.ivfc.proofs.EntryLaws.{block-cong, entry-cong, entry-starts, entry-ends, parent-mono}

@@ -14,7 +14,6 @@ use lib.Dec.{eqb}
 use borrow.Author.Tests.{eqb-true}
 use Rattle.number.proofs.Tests.{and-left, and-right}
 use Rattle.number.specs.declared.Level.{Level}
-use Rattle.number.specs.declared.Range.{Range}
 use Rattle.number.specs.Ranges.{Apart, levelRange}
 use Rattle.number.specs.Blocks.{blocks, blockOf, lastBlock, touches}
 use Rattle.number.specs.Bytes.{Outside, overlay}
@@ -24,13 +23,13 @@ use Rattle.number.proofs.OverlayLaws.{overlay-in, overlay-out}
 use Rattle.number.proofs.FrameLaws.{keeps-refl, keeps-trans, keeps-sets}
 use Rattle.dpfs.specs.declared.Tree.{Tree}
 use Rattle.dpfs.specs.declared.Space.{Space}
-use Rattle.dpfs.specs.Tree.{place, content}
+use Rattle.dpfs.specs.Tree.{content}
 use Rattle.dpfs.specs.Free.{FreeCopy, FreeIn, InRange, Free}
-use Rattle.dpfs.specs.Rules.{WellPlaced, Aside, Beyond, BeyondAll, Among}
+use Rattle.dpfs.specs.Rules.{WellPlaced, Aside, Among}
 use Rattle.dpfs.specs.Staging as dpfs
-use Rattle.dpfs.proofs.SpareLaws.{Spares, Avoids, spares-or, free-spares, avoids-spares, spared-free, spared-content, avoided-content, aside-avoids}
+use Rattle.dpfs.proofs.SpareLaws.{Spares, Avoids, spares-or, free-spares, avoids-spares, spared-free, avoided-content, aside-avoids}
 use Rattle.dpfs.proofs.PutLaws.{put-keeps, put-staged, put-append}
-use Rattle.dpfs.proofs.SpaceLaws.{among-placed, space-spares, table-avoids, tree-free, table-free}
+use Rattle.dpfs.proofs.SpaceLaws.{among-placed, table-avoids, tree-free, table-free, beyond-avoids}
 use Rattle.ivfc.specs.declared.View.{View}
 use Rattle.ivfc.specs.Blocks.{parent}
 use Rattle.ivfc.specs.Views.{levelOf, contentOf, verified, innerByte}
@@ -153,17 +152,6 @@ unfolding FreeIn FreeCopy
 avoids-free {F} tree image a i (inl (y, h, e)) f = a .level1 _ y h (subst F e f)
 avoids-free {F} tree image a i (inr (inl (y, h, e))) f = a .level2 _ y h (subst F e f)
 avoids-free {F} tree image a i (inr (inr (y, h, e))) f = a .level3 _ y h (subst F e f)
-
--- (these two stand in dpfs, private)
-beyond : (r : Range) (l : Level) → Beyond r l → (second : Bool) (y : ℕ) → y < l .size → InRange r (place l second y) → ⊥
-unfolding place
-beyond r l (inl h) true y k f = omega arith
-beyond r l (inr h) true y k f = omega arith
-beyond r l (inl h) false y k f = omega arith
-beyond r l (inr h) false y k f = omega arith
-
-beyond-avoids : (r : Range) (tree : Tree) → BeyondAll r tree → Avoids (InRange r) tree
-beyond-avoids r tree b = record { level1 = beyond r (tree .level1) (b .level1); level2 = beyond r (tree .level2) (b .level2); level3 = beyond r (tree .level3) (b .level3) }
 
 module _ (space : Space) (view : View) (n : ℕ) (r : StagedRules space view n) where
   pub master-in-table : (i : ℕ) → InRange (view .master) i → InRange (space .table) i
@@ -447,10 +435,6 @@ module _ (space : Space) (view : View) (image : List ℕ) (x : ℕ) (values : Li
   abbrev Stored : ℕ → Type 0
   Stored i = Free space image i ⊎ InPlace view x (length values) i
 
-  in-place-outer : (i : ℕ) → InPlace view x (length values) i → OuterByte view i
-  unfolding InPlace
-  in-place-outer i (e, (a, b)) = let f = w .fits in (e, (omega arith, omega arith))
-
   external-byte : (s : List ℕ) (y : ℕ) → view .external ≡ true → contentOf view s 4 y ≡ getD s (view .outside + y) 0
   unfolding contentOf
   external-byte s y e = ap (λ (t : Bool). cond t (getD s (view .outside + y) 0) (innerByte view s (view .level4) y)) e
@@ -491,16 +475,6 @@ module _ (space : Space) (view : View) (image : List ℕ) (x : ℕ) (values : Li
       by : (i : ℕ) → (Stored i → ⊥) → Dec (OuterByte view i) → getD after i 0 ≡ getD image i 0
       by i n (yes f) = outer-stays i f (λ q. n (inr q))
       by i n (no o) = write-own .bytes i (own-not i n o)
-
-  -- the live content of each tree stays
-  pub write-live : (tree : Tree) → Among tree space → (z : ℕ) → z < tree .level3 .size → content tree after (tree .live) z ≡ content tree image (tree .live) z
-  write-live tree m =
-      spared-content tree (length image) (among-placed space (length image) (rules .places) tree m) Stored image after
-      (spares-or (space-spares space (length image) (rules .places) tree m image) (avoids-spares image (avoids-less in-outer (outer-avoids space view (length image) rules tree m))))
-      write-stores
-    where
-      in-outer : (i : ℕ) → InPlace view x (length values) i → OuterByte view i
-      in-outer i f = in-place-outer i f
 
   -- the other tree stays, seen from either half
   pub write-other : (tree : Tree) → Among tree space → Aside tree (view .tree)

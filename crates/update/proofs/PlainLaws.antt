@@ -1,9 +1,9 @@
 -- Where each hash block above a write is verified, nothing is emptied: the bytes are put and the entries brought up to date, and that is all.
 -- Assumes nothing.
-use mathlib.Core.Path.{_≡_, refl, sym, ap, _∙_}
+use mathlib.Core.Path.{_≡_, refl, ap, _∙_}
 use mathlib.Core.List.{List, _∷_}
 use mathlib.Core.Bool.{Bool, true}
-use Prim.Native.Nat.{ℕ, zero, suc, _+_, _-_, _≤_, _<_, max}
+use Prim.Native.Nat.{ℕ, zero, suc, _+_, _-_, _≤_, max}
 use native.Mathlib.Omega.{arith}
 use lib.ListN.{length}
 use Rattle.number.specs.declared.Level.{Level}
@@ -14,7 +14,7 @@ use Rattle.ivfc.specs.Blocks.{parent, child}
 use Rattle.ivfc.specs.Verified.{matches, verified}
 use Rattle.ivfc.specs.Rules.{TreeRules}
 use Rattle.ivfc.proofs.EntryLaws.{parent-mono, child-between}
-use Rattle.update.specs.Writing.{emptied, cleared, rehashed, written}
+use Rattle.update.specs.Writing.{cleared, rehashed, written}
 use Rattle.update.proofs.EmptyLaws.{emptied-none}
 
 module _ (levels : ℕ → Level) (rules : TreeRules levels) {S : Type 0} (read : S → ℕ → ℕ → ℕ) (put : ℕ → ℕ → List ℕ → S → S) (start : S) where

@@ -14,12 +14,11 @@ use Rattle.number.specs.Ranges.{Apart, levelRange, twice}
 use Rattle.number.specs.Frame.{Keeps}
 use Rattle.number.proofs.FrameLaws.{keeps-more}
 use Rattle.layout.specs.declared.Container.{Container}
-use Rattle.layout.specs.declared.Opened.the-variants.{Valid}
 use Rattle.layout.specs.Tables.{inactive}
 use Rattle.layout.specs.Descriptors.{externalRange}
 use Rattle.layout.specs.Opening.{opened}
 use Rattle.layout.specs.Guarantees.{Guarantees, ExternalGuarantees}
-use Rattle.layout.proofs.GuaranteeLaws.{guarantees}
+use Rattle.layout.proofs.GuaranteeLaws.{guarantees, one-container}
 use Rattle.dpfs.specs.declared.Space.{Space}
 use Rattle.dpfs.specs.Free.{InRange, FreeIn, Free}
 use Rattle.dpfs.specs.Rules.{Beyond, BeyondAll}
@@ -109,10 +108,6 @@ module _ (image : List ℕ) (c : Container) (g : Guarantees image c) (q : ℕ) (
   }
 
 -- ---- the rules
-
--- an image opens as one container
-one-container : (image : List ℕ) (c d : Container) → opened image ≡ Valid c → opened image ≡ Valid d → c ≡ d
-one-container image c d p q = cc
 
 pub view-placed : {view : View} {image : List ℕ} → OwnView view image → ViewRules view (length image)
 view-placed {view} {image} h =

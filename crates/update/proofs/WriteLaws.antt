@@ -2,7 +2,7 @@
 -- stays Ok. Assumes nothing.
 use mathlib.Core.Path.{_≡_, refl, sym, ap, _∙_}
 use mathlib.Core.List.{List, [], _∷_}
-use mathlib.Core.Bool.{Bool, true, false, _||_, true≢false}
+use mathlib.Core.Bool.{Bool, true, false, _||_}
 use mathlib.Core.Logic.{_⊎_, inl, inr}
 use Prim.Native.Nat.{ℕ, zero, suc, _+_, _-_, _*_, _≤_, _<_}
 use native.Mathlib.Omega.{arith}
@@ -16,8 +16,8 @@ use Rattle.number.proofs.ListLaws.{between-or-not}
 use Rattle.number.proofs.OverlayLaws.{overlay-none, overlay-is}
 use Rattle.number.proofs.BlockLaws.{block-below, block-starts, block-ends, block-mono, block-exists, touches-is, touches-out}
 use Rattle.sha256.specs.Sha256.{sha256}
-use Rattle.ivfc.specs.Blocks.{block, entry, parent}
-use Rattle.ivfc.specs.Verified.{zeroEntry, vouches, matches, verified}
+use Rattle.ivfc.specs.Blocks.{entry, parent}
+use Rattle.ivfc.specs.Verified.{zeroEntry, matches, verified}
 use Rattle.ivfc.specs.Rules.{TreeRules}
 use Rattle.ivfc.proofs.EntryLaws.{block-cong, entry-cong, entry-starts, entry-ends, parent-mono}
 use Rattle.ivfc.proofs.VerifiedLaws.{entry-inside, parent-inside}

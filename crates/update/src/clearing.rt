@@ -12,7 +12,7 @@ use number::blocks::block_size;
 use number::blocks::lesser;
 ghost use mathlib.Core.Path.{_≡_};
 ghost use mathlib.Core.Bool.{true};
-ghost use Prim.Native.Nat.{ℕ, _+_, _-_, _*_, _^_, _≤_, _<_};
+ghost use Prim.Native.Nat.{_+_, _-_, _*_, _^_, _≤_, _<_};
 ghost use lib.ListN.{replicate};
 ghost use Rattle.number.specs.Blocks.{blocks, blockSize, blockLength};
 ghost use Rattle.ivfc.specs.Views.{levelOf, contentOf, matches, verified};

@@ -6,7 +6,7 @@ use ivfc::gathering::level_of;
 use ivfc::matching::zero_entry;
 use ivfc::verifying::parent_of;
 ghost use mathlib.Core.Path.{_≡_};
-ghost use Prim.Native.Nat.{ℕ, suc, _-_, _≤_, _<_};
+ghost use Prim.Native.Nat.{suc, _-_, _≤_, _<_};
 ghost use lib.ListN.{length};
 ghost use Rattle.number.specs.Blocks.{blocks};
 ghost use Rattle.ivfc.specs.Views.{levelOf, contentOf};

@@ -3,3 +3,4 @@ pub mod ProtectedLaws
 pub mod OpenLaws
 pub mod FitLaws
 pub mod FlagLaws
+pub mod VersionLaws

@@ -24,7 +24,6 @@ use Rattle.layout.specs.Tables.{active, inactive}
 use Rattle.layout.specs.Guarantees.{SlotGuarantees, HeaderGuarantees, PartitionGuarantees, Described, SecondGuarantees, Guarantees}
 use Rattle.dpfs.specs.declared.Tree.{Tree}
 use Rattle.dpfs.specs.Rules.{Disjoint, WellPlaced, Aside, Beyond, BeyondAll, SpaceRules, Among}
-use Rattle.ivfc.specs.declared.View.{View}
 use Rattle.ivfc.specs.Views.{levelOf}
 use Rattle.ivfc.specs.Rules.{TreeRules, ViewRules, LevelsApart}
 use Rattle.views.specs.Places.{partitions, slotOf, partitionOf, treeIn, masterIn, viewIn, treeOf, committedView, stagedView, spaceOf}
@@ -59,18 +58,6 @@ tree-beyond r s tree a t = record {
   level1 = pair-beyond r s (tree .level1) a (t .level1);
   level2 = pair-beyond r s (tree .level2) a (t .level2);
   level3 = pair-beyond r s (tree .level3) a (t .level3);
-}
-
--- so is a part of it
-within-pair : (a r : Range) (l : Level) → Inside a r → Beyond r l → Beyond a l
-within-pair a r l h (inl k) = inl (omega arith)
-within-pair a r l h (inr k) = inr (omega arith)
-
-pub within-beyond : (a r : Range) (tree : Tree) → Inside a r → BeyondAll r tree → BeyondAll a tree
-within-beyond a r tree h b = record {
-  level1 = within-pair a r (tree .level1) h (b .level1);
-  level2 = within-pair a r (tree .level2) h (b .level2);
-  level3 = within-pair a r (tree .level3) h (b .level3);
 }
 
 -- the trees of two partitions have no place in common
@@ -310,19 +297,9 @@ module _ (image : List ℕ) (c : Container) (g : Guarantees image c) where
         master-inside (length image) (c .header) (slotOf c q) (partitionOf c q) (there .slot) (there .described .guarantees) (g .longest)
         (inactive (c .header)) (inactive-table .size)
 
-    -- both tables, and so the master hashes in them, lie beyond every tree
-    pub active-beyond : BeyondAll (active (c .header)) (treeOf c q)
-    active-beyond = tree-beyond (active (c .header)) (slotOf c q .partition) (treeOf c q) active-partition tree-inside
-
+    -- the staged table lies beyond every tree
     pub inactive-beyond : BeyondAll (inactive (c .header)) (treeOf c q)
     inactive-beyond = tree-beyond (inactive (c .header)) (slotOf c q .partition) (treeOf c q) inactive-partition tree-inside
-
-  -- the master hashes of partition q lie beyond the tree of partition r
-  pub committed-beyond : (q r : ℕ) → q < partitions c → r < partitions c → BeyondAll (committedView c q .master) (treeOf c r)
-  committed-beyond q r h k = within-beyond (committedView c q .master) (active (c .header)) (treeOf c r) (committed-master q h) (active-beyond r k)
-
-  pub staged-beyond : (q r : ℕ) → q < partitions c → r < partitions c → BeyondAll (stagedView c q .master) (treeOf c r)
-  staged-beyond q r h k = within-beyond (stagedView c q .master) (inactive (c .header)) (treeOf c r) (staged-master q h) (inactive-beyond r k)
 
   -- the space of a session, and each tree in it
   pub space-rules : SpaceRules (spaceOf c) (length image)

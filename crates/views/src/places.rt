@@ -11,9 +11,8 @@ use layout::tables::inactive_range;
 use number::Level;
 use number::Range;
 ghost use mathlib.Core.Path.{_≡_};
-ghost use Prim.Native.Nat.{ℕ, _+_, _^_, _<_};
-ghost use Rattle.layout.specs.Tables.{active, inactive};
-ghost use Rattle.views.specs.Places.{slotOf, partitionOf, shifted, treeIn, masterIn, viewIn, treeOf, committedView, stagedView, spaceOf};
+ghost use Prim.Native.Nat.{_+_, _^_, _<_};
+ghost use Rattle.views.specs.Places.{slotOf, partitionOf, shifted, treeIn, viewIn, committedView, stagedView, spaceOf};
 ghost use Rattle.views.specs.Rules.{TreeFits, ViewFits, PlacesFit, SpaceFits};
 
 pub fn slot_of(c: Container, q: u64) -> Slot

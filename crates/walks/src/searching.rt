@@ -14,7 +14,7 @@ use names::hashing::bucket_of;
 use number::runs::same_bytes;
 ghost use mathlib.Core.Path.{_≡_};
 ghost use mathlib.Core.Bool.{false};
-ghost use Prim.Native.Nat.{ℕ, _+_, _*_, _≤_, _<_};
+ghost use Prim.Native.Nat.{_+_, _*_, _≤_, _<_};
 ghost use lib.ListN.{length};
 ghost use Rattle.ivfc.specs.Rules.{ViewRules};
 ghost use Rattle.views.specs.Versions.{versionOf};

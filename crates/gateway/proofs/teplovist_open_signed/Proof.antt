@@ -4,7 +4,7 @@ use Rattle.boundary.specs.Boundary.{packed, descriptionLeft}
 use Rattle.signatures.specs.Signatures.{openedSigned}
 use Rattle.layout.specs.declared.Opened.{Opened}
 use denote.Ref.{now}
-use mathlib.Core.Path.{_≡_, _∙_, ap}
+use mathlib.Core.Path.{_∙_, ap}
 use borrow.Author.Needs.{needs}
 use Rattle.gateway.proofs.teplovist_open_signed.Statement.{statement}
 use Rattle.gateway.proofs.teplovist_open_signed.Tie as tie

@@ -1,6 +1,6 @@
 -- `mark` asks for each bit of the half. Assumes nothing.
 use mathlib.Core.Path.{_≡_}
-use Prim.Native.Nat.{ℕ, _-_, _*_, _<_, _≤_}
+use Prim.Native.Nat.{_-_, _*_, _<_, _≤_}
 use lib.ListN.{length}
 use borrow.Author.Needs.{needs}
 use Rattle.half_bits.proofs.mark.Statement.{statement}

@@ -1,5 +1,4 @@
 -- `write_blocks` empties, puts the bytes, brings the entries above them up to date, and looks at these. Assumes nothing.
-use mathlib.Core.Path.{_≡_, ap, _∙_}
 use native.Mathlib.Omega.{arith}
 use lib.ListN.{length}
 use borrow.Author.Needs.{needs}

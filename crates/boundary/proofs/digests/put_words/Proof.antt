@@ -1,6 +1,6 @@
 -- `put_words`: after k turns the first k words read back. Assumes nothing.
 use mathlib.Core.Path.{_≡_, refl, _∙_}
-use Prim.Native.Nat.{ℕ, _-_, _≤_}
+use Prim.Native.Nat.{_-_, _≤_}
 use native.Mathlib.Omega.{arith}
 use lib.ListN.{length}
 use Rattle.boundary.proofs.StateLaws.{Words, words-more}

@@ -1,15 +1,12 @@
 -- `words_of`: after k turns the first k words are read. Assumes nothing.
 use mathlib.Core.Path.{_≡_, refl, _∙_}
-use Prim.Native.Nat.{ℕ, _-_, _≤_}
+use Prim.Native.Nat.{_-_, _≤_}
 use native.Mathlib.Omega.{arith}
 use lib.ListN.{length, length-set}
 use borrow.Author.Needs.{needs}
 use Rattle.boundary.proofs.StateLaws.{Words, read-more, all-read}
 use Rattle.boundary.proofs.digests.words_of.Statement.{statement}
 use Rattle.boundary.proofs.digests.words_of.Tie as tie
-use Rattle.boundary.proofs.digests.words_of.Reads as reads
-use Rattle.boundary.proofs.digests.words_of.Lts as lts
-use Rattle.number.proofs.fields.field4.Reads as field4-reads
 
 abbrev Inv-loop : tie.InvT-loop
 Inv-loop bytes hash₀ k₀ hash k = (length hash ≡ 8) × (k ≤ 8) × Words bytes hash k

@@ -3,7 +3,6 @@ use mathlib.Core.Path.{ap, _∙_}
 use Prim.Native.Nat.{_-_, _≤_, _<_}
 use lib.ListN.{length}
 use native.Mathlib.Omega.{arith}
-use borrow.Author.Needs.{needs}
 use Rattle.dpfs.specs.Tree.{select3}
 use Rattle.dpfs.specs.Rules.{OneCopy}
 use Rattle.dpfs.proofs.LevelLaws.{held2}

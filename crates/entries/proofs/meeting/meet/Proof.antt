@@ -8,10 +8,10 @@ use Rattle.names.specs.Entries.{admit}
 use Rattle.names.proofs.MeetLaws.{meets-invalid, meets-unverified, meets-at}
 use Rattle.names.proofs.EntryLaws.{admit-at, place-ends}
 use Rattle.number.proofs.MarkLaws.{left-pos}
-use Rattle.entries.proofs.ReadLaws.{size-small}
 use borrow.Author.Needs.{needs}
 use Rattle.entries.proofs.meeting.meet.Statement.{statement}
 use Rattle.entries.proofs.meeting.meet.Tie as tie
+use Rattle.ivfc.proofs.ViewLaws.{size4-small}
 
 is-marked-requires : tie.Need-is-marked-requires
 is-marked-requires c κs = search needs
@@ -36,7 +36,7 @@ set-mark-requires c κs =
 add-store-name : tie.Need-add-store-name
 add-store-name c =
     let q = admit-at (versionOf (c .before .before .before .before .before .before .before .before .before .before .before .before .before .before .before .before .before .before .args .view) (c .before .before .before .before .before .before .before .before .before .before .before .before .before .before .before .before .before .before .args .image .now) .verified) (c .before .before .before .before .before .before .before .before .before .before .before .before .before .before .before .before .before .before .args .view .level4 .log) (c .before .before .before .before .before .before .before .before .before .before .before .before .before .before .before .before .before .before .args .t) _ (c .before .before .before .before .before .before .before .before .before .before .before .before .before .before .before .before .before .before .args .e) _ (sym (c .before .before .before .before .before .before .before .before .before .before .reach .ensures .0) ∙ c .before .before .before .before .before .before .found2 .given .1) in
-    omega (arith, q .2, c .before .before .before .before .before .before .before .before .before .before .before .before .before .before .before .before .before .before .pre .2, c .before .before .before .before .before .before .before .before .before .before .before .before .before .before .before .before .before .before .pre .1, size-small (c .before .before .before .before .before .before .before .before .before .before .before .before .before .before .before .before .before .before .args .view) _ (c .before .before .before .before .before .before .before .before .before .before .before .before .before .before .before .before .before .before .pre .0 .rules), place-ends (c .before .before .before .before .before .before .before .before .before .before .before .before .before .before .before .before .before .before .args .t) (c .before .before .before .before .before .before .before .before .before .before .before .before .before .before .before .before .before .before .args .e) (q .1))
+    omega (arith, q .2, c .before .before .before .before .before .before .before .before .before .before .before .before .before .before .before .before .before .before .pre .2, c .before .before .before .before .before .before .before .before .before .before .before .before .before .before .before .before .before .before .pre .1, size4-small (c .before .before .before .before .before .before .before .before .before .before .before .before .before .before .before .before .before .before .args .view) _ (c .before .before .before .before .before .before .before .before .before .before .before .before .before .before .before .before .before .before .pre .0 .rules), place-ends (c .before .before .before .before .before .before .before .before .before .before .before .before .before .before .before .before .before .before .args .t) (c .before .before .before .before .before .before .before .before .before .before .before .before .before .before .before .before .before .before .args .e) (q .1))
 
 store-name-requires : tie.Need-store-name-requires
 store-name-requires c κs =

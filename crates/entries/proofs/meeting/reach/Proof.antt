@@ -5,10 +5,10 @@ use native.Mathlib.Omega.{arith}
 use Rattle.views.specs.Versions.{versionOf}
 use Rattle.names.specs.Entries.{readAt}
 use Rattle.names.proofs.EntryLaws.{admit-no, admit-read, tests-passed, place-ends}
-use Rattle.entries.proofs.ReadLaws.{size-small}
 use borrow.Author.Needs.{needs}
 use Rattle.entries.proofs.meeting.reach.Statement.{statement}
 use Rattle.entries.proofs.meeting.reach.Tie as tie
+use Rattle.ivfc.proofs.ViewLaws.{size4-small}
 
 returns : tie.Need-returns
 returns c = (admit-no (versionOf (c .before .before .before .before .before .args .view) (c .before .before .before .before .before .args .image .now) .verified) (c .before .before .before .before .before .args .view .level4 .log) (c .before .before .before .before .before .args .t) (c .before .before .before .before .before .args .again) (c .before .before .before .before .before .args .e) (c .if1 .taken), c .before .before .before .before .before .pre .0 .knows)
@@ -16,7 +16,7 @@ returns c = (admit-no (versionOf (c .before .before .before .before .before .arg
 place-of-requires : tie.Need-place-of-requires
 place-of-requires c κs =
     let q = tests-passed (c .before .before .before .before .before .before .args .again) (c .before .before .before .before .before .before .args .t .count) (c .before .before .before .before .before .before .args .t .max) (c .before .before .before .before .before .before .args .e) (c .before .if1 .left) in
-    omega (arith, c .before .before .before .before .before .before .pre .1, c .before .before .before .before .before .before .pre .2, size-small (c .before .before .before .before .before .before .args .view) _ (c .before .before .before .before .before .before .pre .0 .rules), place-ends (c .before .before .before .before .before .before .args .t) (c .before .before .before .before .before .before .args .e) (q .1))
+    omega (arith, c .before .before .before .before .before .before .pre .1, c .before .before .before .before .before .before .pre .2, size4-small (c .before .before .before .before .before .before .args .view) _ (c .before .before .before .before .before .before .pre .0 .rules), place-ends (c .before .before .before .before .before .before .args .t) (c .before .before .before .before .before .before .args .e) (q .1))
 
 read-at-requires : tie.Need-read-at-requires
 read-at-requires c κs =

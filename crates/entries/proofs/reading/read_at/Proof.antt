@@ -1,21 +1,22 @@
 -- `entries::reading::read_at` meets its contract. Assumes nothing.
 use native.Mathlib.Omega.{arith}
-use Rattle.entries.proofs.ReadLaws.{size-small, log-small, touched, read-whole, read-refused}
+use Rattle.entries.proofs.ReadLaws.{touched, read-whole, read-refused}
 use borrow.Author.Needs.{needs}
 use Rattle.entries.proofs.reading.read_at.Statement.{statement}
 use Rattle.entries.proofs.reading.read_at.Tie as tie
+use Rattle.ivfc.proofs.ViewLaws.{size4-small, log4-small}
 
 sub-block-of : tie.Need-sub-block-of
 sub-block-of c = search needs
 
 add-block-of : tie.Need-add-block-of
-add-block-of c = omega (arith, c .before .before .pre .2, size-small (c .before .before .args .view) _ (c .before .before .pre .0 .rules))
+add-block-of c = omega (arith, c .before .before .pre .2, size4-small (c .before .before .args .view) _ (c .before .before .pre .0 .rules))
 
 block-of-requires : tie.Need-block-of-requires
-block-of-requires c κs = omega (arith, log-small (c .before .before .args .view) _ (c .before .before .pre .0 .rules))
+block-of-requires c κs = omega (arith, log4-small (c .before .before .args .view) _ (c .before .before .pre .0 .rules))
 
 block-of-requires-2 : tie.Need-block-of-requires-2
-block-of-requires-2 c κs = omega (arith, log-small (c .before .before .before .before .args .view) _ (c .before .before .before .before .pre .0 .rules))
+block-of-requires-2 c κs = omega (arith, log4-small (c .before .before .before .before .args .view) _ (c .before .before .before .before .pre .0 .rules))
 
 first-unknown-requires : tie.Need-first-unknown-requires
 first-unknown-requires c κs =

@@ -1,13 +1,13 @@
 -- `mark_all` meets its contract. The loop's invariant: the partitions before q are judged. The measure is how many are left. Assumes nothing.
-use Prim.Native.Nat.{ℕ, _+_, _-_, _≤_}
+use Prim.Native.Nat.{_-_, _≤_}
 use mathlib.Core.Path.{_≡_, refl, sym, ap, _∙_}
 use native.Mathlib.Omega.{arith}
 use lib.ListN.{length}
 use borrow.Author.Tests.{lt-ltb}
 use Rattle.ivfc.specs.declared.View.{View}
-use Rattle.views.specs.Places.{partitions, committedView}
+use Rattle.views.specs.Places.{partitions}
 use Rattle.steps.proofs.CallLaws.{committed-keeps}
-use Rattle.faults.specs.Marking.{blocksBefore, partitionsBefore, Free, Judges, Marked}
+use Rattle.faults.specs.Marking.{blocksBefore, partitionsBefore, Marked}
 use Rattle.faults.proofs.NumberLaws.{partitions-none, partitions-step, partitions-mono, marked-none, marked-step, marked-all}
 use Rattle.faults.proofs.RoomLaws.{searchable}
 use borrow.Author.Needs.{needs}

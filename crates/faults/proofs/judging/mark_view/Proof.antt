@@ -4,7 +4,6 @@ use mathlib.Core.Path.{_≡_, refl, ap, _∙_}
 use native.Mathlib.Omega.{arith}
 use lib.ListN.{length}
 use Rattle.number.specs.Blocks.{blocks}
-use Rattle.ivfc.specs.Views.{levelOf}
 use Rattle.faults.specs.Marking.{blocksBefore, Judges}
 use Rattle.faults.proofs.NumberLaws.{before-step, before-mono, ordered, judges-none, judges-step, judges-awaits}
 use borrow.Author.Needs.{needs}

@@ -96,9 +96,6 @@ low-turn d = LL.val U.the-type U′.the-laws d
 abbrev low-opened : Opened → Val
 low-opened d = EL.val P.the-type P′.the-laws d
 
-abbrev low-count : Count → Val
-low-count d = EL.val O.the-type O′.the-laws d
-
 -- what is known of a turn's parts
 at-fits : (d : Turn) → Is U.the-row d (low-turn d ∷ []) → d .at < 2 ^ 64
 at-fits d is = LL.owed U.the-type U′.the-laws d _ is .1 .1 .0 .1

@@ -1,6 +1,5 @@
 -- `first` meets its contract. Assumes nothing.
 use Rattle.faults.proofs.TurnLaws.{start-ready, reaches-first}
-use borrow.Author.Needs.{needs}
 use Rattle.faults.proofs.listing.first.Statement.{statement}
 use Rattle.faults.proofs.listing.first.Tie as tie
 

@@ -1,6 +1,6 @@
 -- `mark_row` meets its contract. The loop's invariant: the first j are marked as they are told, and the others are as they were. The measure is how many
 -- are left. Assumes nothing.
-use Prim.Native.Nat.{ℕ, _+_, _-_, _≤_}
+use Prim.Native.Nat.{ℕ, _-_, _≤_}
 use mathlib.Core.Path.{_≡_, refl, _∙_}
 use mathlib.Core.Bool.{false}
 use native.Mathlib.Omega.{arith}

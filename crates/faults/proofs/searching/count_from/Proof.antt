@@ -1,13 +1,10 @@
 -- `count_from` meets its contract: what was counted and what is left, the find's own with it, are what was left at first. Assumes nothing.
 use Prim.Native.Nat.{_+_, _-_}
-use mathlib.Core.Path.{_≡_, refl, sym, ap, _∙_}
+use mathlib.Core.Path.{_≡_}
 use mathlib.Core.Bool.{false}
-use mathlib.Core.List.{[]}
 use native.Mathlib.Omega.{arith}
-use lib.ListN.{length}
-use Rattle.faults.specs.Searching.{leftIn, Placed}
+use Rattle.faults.specs.Searching.{Placed}
 use Rattle.faults.proofs.SearchLaws.{total, finds-total, total-yes, total-no}
-use borrow.Author.Needs.{needs}
 use Rattle.faults.proofs.searching.count_from.Statement.{statement}
 use Rattle.faults.proofs.searching.count_from.Tie as tie
 

@@ -1,5 +1,5 @@
 -- `find` meets its contract: what is left from the place on is left from `at` on, which goes on level by level. Assumes nothing.
-use Prim.Native.Nat.{suc, _+_, _-_, _*_}
+use Prim.Native.Nat.{suc, _-_, _*_}
 use mathlib.Core.Path.{_≡_, refl, _∙_}
 use native.Mathlib.Omega.{arith}
 use Rattle.views.specs.Places.{partitions}

@@ -1,8 +1,6 @@
 -- `find_in` meets its contract: a level is searched. Assumes nothing.
-use Prim.Native.Nat.{_+_, _-_}
 use native.Mathlib.Omega.{arith}
 use Rattle.faults.proofs.SearchLaws.{level-inside, found-from, found-small, spot-small, passes-hit, passes-miss}
-use borrow.Author.Needs.{needs}
 use Rattle.faults.proofs.searching.find_in.Statement.{statement}
 use Rattle.faults.proofs.searching.find_in.Tie as tie
 

@@ -1,8 +1,8 @@
 -- `judge_two`, which calls itself for the blocks that hold the entries, meets its contract. The measure is the level number. Assumes nothing.
 use Prim.Native.Nat.{ℕ, _*_, _-_, _^_, _≤_, _<_}
-use mathlib.Core.Path.{_≡_, refl, sym, ap, _∙_}
+use mathlib.Core.Path.{_≡_, ap, _∙_}
 use mathlib.Core.List.{List}
-use mathlib.Core.Bool.{Bool, true}
+use mathlib.Core.Bool.{true}
 use native.Mathlib.Omega.{arith}
 use native.Mathlib.Nat.{pos-of-ne-zero}
 use borrow.Fn.Kinds.{In}
@@ -12,7 +12,7 @@ use Rattle.number.specs.Blocks.{blocks}
 use Rattle.ivfc.specs.declared.View.{View}
 use Rattle.ivfc.specs.Blocks.{parent}
 use Rattle.ivfc.specs.Verified as tree
-use Rattle.ivfc.specs.Views.{levelOf, contentOf, verified}
+use Rattle.ivfc.specs.Views.{levelOf, verified}
 use Rattle.ivfc.proofs.ViewLaws.{level-small}
 use Rattle.ivfc.proofs.VerifiedLaws.{entry-above, parent-above}
 use Rattle.ivfc.proofs.verifying.judge_two.Reads as judge-two

@@ -1,5 +1,5 @@
 -- `verified_under` goes by the answer for the block that holds the entry, and then by the entry. Assumes nothing.
-use mathlib.Core.Path.{_≡_, sym, _∙_}
+use mathlib.Core.Path.{sym, _∙_}
 use borrow.Author.Needs.{needs}
 use Rattle.ivfc.specs.Views.{levelOf, contentOf}
 use Rattle.ivfc.proofs.VerifiedLaws.{verified-below, verified-under}

@@ -1,6 +1,5 @@
 -- `layout::descriptors::all_enough` meets its contract. Assumes nothing.
 use mathlib.Core.Bool.{_&&_}
-use borrow.Author.Needs.{needs}
 use Rattle.layout.specs.Every.{every, onto}
 use Rattle.layout.specs.Descriptors.{allEnough}
 use Rattle.layout.proofs.descriptors.all_enough.Statement.{statement}

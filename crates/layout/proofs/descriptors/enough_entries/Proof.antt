@@ -1,7 +1,6 @@
 -- `layout::descriptors::enough_entries` meets its contract. Assumes nothing.
 use Prim.Native.Nat.{_*_, _/_}
 use native.Mathlib.Omega.{arith}
-use borrow.Author.Needs.{needs}
 use Rattle.number.proofs.Tests.{leb-same}
 use Rattle.layout.specs.Descriptors.{enoughEntries}
 use Rattle.layout.proofs.descriptors.enough_entries.Statement.{statement}

@@ -1,7 +1,6 @@
 -- `layout::descriptors::form_allowed` meets its contract. Assumes nothing.
 use mathlib.Core.Path.{_∙_}
 use mathlib.Core.Bool.{_&&_, _||_, not}
-use borrow.Author.Needs.{needs}
 use Rattle.layout.specs.Every.{every, onto}
 use Rattle.layout.specs.Descriptors.{formAllowed, ivfcAllowed, dpfsAllowed}
 use Rattle.layout.proofs.descriptors.form_allowed.Statement.{statement}

@@ -1,6 +1,5 @@
 -- `layout::descriptors::judge_partition` meets its contract. Assumes nothing.
 use borrow.Author.Tests.{lt-leb, le-leb}
-use borrow.Author.Needs.{needs}
 use Rattle.number.proofs.Tests.{failed, passed}
 use Rattle.layout.specs.Descriptors.{judgedPartition}
 use Rattle.layout.proofs.descriptors.judge_partition.Statement.{statement}

@@ -1,5 +1,4 @@
 -- `layout::descriptors::levels_placed` meets its contract. Assumes nothing.
-use borrow.Author.Needs.{needs}
 use Rattle.layout.specs.Descriptors.{levelsPlaced}
 use Rattle.layout.proofs.descriptors.levels_placed.Statement.{statement}
 use Rattle.layout.proofs.descriptors.levels_placed.Tie as tie

@@ -3,7 +3,6 @@ use mathlib.Core.List.{[], _∷_}
 use Rattle.number.specs.Ranges.{placed}
 use mathlib.Core.Path.{sym, _∙_}
 use native.Mathlib.Omega.{arith}
-use borrow.Author.Needs.{needs}
 use Rattle.number.proofs.RangeLaws.{misfit, misfit-later, fits-ends}
 use Rattle.number.proofs.Tests.{failed, passed}
 use Rattle.layout.proofs.descriptors.pairs_and_one_placed.Statement.{statement}

@@ -1,5 +1,4 @@
 -- `layout::descriptors::pieces_placed` meets its contract. Assumes nothing.
-use borrow.Author.Needs.{needs}
 use Rattle.layout.specs.Descriptors.{piecesPlaced}
 use Rattle.layout.proofs.descriptors.pieces_placed.Statement.{statement}
 use Rattle.layout.proofs.descriptors.pieces_placed.Tie as tie

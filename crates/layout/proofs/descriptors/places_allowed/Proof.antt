@@ -1,6 +1,5 @@
 -- `layout::descriptors::places_allowed` meets its contract. Assumes nothing.
 use mathlib.Core.Bool.{_&&_}
-use borrow.Author.Needs.{needs}
 use Rattle.layout.specs.Descriptors.{placesAllowed}
 use Rattle.layout.proofs.descriptors.places_allowed.Statement.{statement}
 use Rattle.layout.proofs.descriptors.places_allowed.Tie as tie

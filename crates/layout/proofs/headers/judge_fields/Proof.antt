@@ -1,5 +1,4 @@
 -- `layout::headers::judge_fields` meets its contract. Assumes nothing.
-use borrow.Author.Needs.{needs}
 use Rattle.number.proofs.Tests.{failed, passed}
 use Rattle.layout.specs.Headers.{judgedFields}
 use Rattle.layout.proofs.headers.judge_fields.Statement.{statement}

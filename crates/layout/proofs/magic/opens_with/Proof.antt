@@ -2,7 +2,6 @@
 use mathlib.Core.Path.{_∙_}
 use denote.Ref.{now}
 use Rattle.number.specs.Bytes.{sameBytes}
-use borrow.Author.Needs.{needs}
 use Rattle.layout.specs.Magic.{opensWith}
 use Rattle.layout.proofs.magic.opens_with.Statement.{statement}
 use Rattle.layout.proofs.magic.opens_with.Tie as tie

@@ -1,7 +1,6 @@
 -- `layout::opening::judge_slot` meets its contract. Assumes nothing.
 use mathlib.Core.Path.{_∙_}
 use Rattle.layout.specs.Descriptors.{judgedPartition}
-use borrow.Author.Needs.{needs}
 use Rattle.layout.proofs.opening.judge_slot.Statement.{statement}
 use Rattle.layout.proofs.opening.judge_slot.Tie as tie
 

@@ -1,6 +1,5 @@
 -- `layout::tables::active_table` meets its contract. Assumes nothing.
 use mathlib.Core.Path.{ap, _∙_}
-use borrow.Author.Needs.{needs}
 use lib.ListN.{length}
 use Rattle.number.proofs.ListLaws.{length-part}
 use Rattle.number.specs.Ranges.{part}

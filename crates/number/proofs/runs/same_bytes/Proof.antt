@@ -1,6 +1,6 @@
 -- `same_bytes` meets its contract. The loop's invariant: the bytes passed were the same, and what is left of the two slices is, or the slices are
 -- not. The measure is what is left. Assumes nothing.
-use Prim.Native.Nat.{_≤_, _-_, _+_}
+use Prim.Native.Nat.{_≤_, _-_}
 use mathlib.Core.Bool.{_&&_, and-true}
 use mathlib.Core.Path.{_≡_, refl, sym, ap, _∙_}
 use native.Mathlib.Omega.{arith}

@@ -4,7 +4,8 @@ use native.Mathlib.Omega.{arith}
 use lib.ListN.{replicate}
 use borrow.Author.Needs.{needs}
 use Rattle.signing.specs.Blocks.{signingBlock}
-use Rattle.signing.proofs.BlockLaws.{shape-letters, shape-fields, block-made, block-ends, padded}
+use Rattle.signing.proofs.BlockLaws.{shape-letters, shape-fields, block-made, block-ends}
+use Rattle.number.proofs.ListLaws.{over-zeros}
 use Rattle.signing.proofs.blocks.build.Statement.{statement}
 use Rattle.signing.proofs.blocks.build.Tie as tie
 
@@ -44,7 +45,7 @@ returns c =
     let ends = block-ends (a .signer) (s .result) (s .ensures) (replicate 284 0) (a .header .now) _ _ _ (p .result) (t .result)
     (c .before .before .before .before .before .before .before .copy-into .ensures) (p .ensures .0) (p .ensures .1) (t .ensures .0) (t .ensures .1) in
     let small = shape-fields _ _ (s .ensures) in
-    (made ∙ padded (signingBlock (a .signer) (a .header .now)) (omega (arith, ends, t .ensures .2, p .ensures .1, small)), ends, omega (arith, t .ensures .2, p .ensures .1, small))
+    (made ∙ over-zeros 284 (signingBlock (a .signer) (a .header .now)) (omega (arith, ends, t .ensures .2, p .ensures .1, small)), ends, omega (arith, t .ensures .2, p .ensures .1, small))
 
 pub build-spec : {M : Type 1} → statement M
 build-spec =

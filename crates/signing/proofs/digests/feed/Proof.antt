@@ -71,9 +71,6 @@ Advance 𝓤 H A mem run = tripleOf 𝓤 H A advance.signature (advance.spec �
 abbrev low : Running → Val
 low d = LL.val T.the-type T′.the-laws d
 
-abbrev low-fed : Fed → Val
-low-fed d = LL.val F.the-type F′.the-laws d
-
 abbrev low-out : Outcome → Val
 low-out d = EL.val O.the-type O′.the-laws d
 

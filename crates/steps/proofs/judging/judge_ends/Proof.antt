@@ -1,16 +1,14 @@
 -- `judge_ends` asks of the blocks at the ends that are covered in part. Assumes nothing.
-use mathlib.Core.Path.{_≡_, sym, _∙_}
-use Prim.Native.Nat.{ℕ, _+_, _≤_, _<_, _^_}
+use mathlib.Core.Path.{sym, _∙_}
 use native.Mathlib.Omega.{arith}
 use lib.ListN.{length}
 use borrow.Author.Needs.{needs}
 use borrow.Author.Tests.{not-true, not-false}
-use Rattle.number.specs.Blocks.{blocks}
 use Rattle.ivfc.specs.Views.{levelOf}
-use Rattle.steps.proofs.ReadLaws.{size4-small}
 use Rattle.steps.proofs.JudgeLaws.{log4-most, ends-exist, ends-exist-both, ends-covered, ends-lower, ends-upper, ends-none}
 use Rattle.steps.proofs.judging.judge_ends.Statement.{statement}
 use Rattle.steps.proofs.judging.judge_ends.Tie as tie
+use Rattle.ivfc.proofs.ViewLaws.{size4-small}
 
 covers-requires : tie.Need-covers-requires
 covers-requires c κs =

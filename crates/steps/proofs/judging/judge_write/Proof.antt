@@ -2,11 +2,12 @@
 use native.Mathlib.Omega.{arith}
 use lib.ListN.{length}
 use Rattle.number.proofs.Tests.{failed, passed}
-use Rattle.steps.proofs.ReadLaws.{log4-small, size4-small, in-level}
+use Rattle.steps.proofs.ReadLaws.{in-level}
 use Rattle.steps.proofs.JudgeLaws.{write-outside, write-nothing, write-ends, end-rules}
 use borrow.Author.Needs.{needs}
 use Rattle.steps.proofs.judging.judge_write.Statement.{statement}
 use Rattle.steps.proofs.judging.judge_write.Tie as tie
+use Rattle.ivfc.proofs.ViewLaws.{log4-small, size4-small}
 
 lies-inside-requires : tie.Need-lies-inside-requires
 lies-inside-requires c κs = search needs

@@ -6,11 +6,6 @@ use Rattle.steps.proofs.RevertLaws.{header-changed, header-same}
 use borrow.Author.Needs.{needs}
 use Rattle.steps.proofs.reverting.is_revertible.Statement.{statement}
 use Rattle.steps.proofs.reverting.is_revertible.Tie as tie
-use Rattle.steps.proofs.reverting.is_revertible.Reads as reads
-use Rattle.steps.proofs.reverting.is_revertible.Lts as lts
-use Rattle.layout.proofs.opening.open_under.Reads as open-under-reads
-use Rattle.number.proofs.runs.same_bytes.Reads as same-bytes-reads
-use Rattle.steps.proofs.reverting.is_valid.Reads as is-valid-reads
 
 -- src/reverting.rt:26:20
 sub-same-bytes : tie.Need-sub-same-bytes

@@ -1,11 +1,11 @@
 -- `container::reading::judge_read` meets its contract. Assumes nothing.
-use Rattle.steps.proofs.ReadLaws.{log4-small, size4-small, in-level, read-outside, read-nothing, in-order, last-there, read-lowest, read-all}
+use Rattle.steps.proofs.ReadLaws.{in-level, read-outside, read-nothing, in-order, last-there, read-lowest, read-all}
 use Rattle.number.proofs.Tests.{failed, passed}
-use lib.ListN.{length}
 use native.Mathlib.Omega.{arith}
 use borrow.Author.Needs.{needs}
 use Rattle.steps.proofs.viewing.judge_read.Statement.{statement}
 use Rattle.steps.proofs.viewing.judge_read.Tie as tie
+use Rattle.ivfc.proofs.ViewLaws.{log4-small, size4-small}
 
 lies-inside-requires : tie.Need-lies-inside-requires
 lies-inside-requires c κs = search needs

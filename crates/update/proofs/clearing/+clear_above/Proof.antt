@@ -1,5 +1,5 @@
 -- `clear_above` empties the hash blocks of one level after those above them; the level falls. Assumes nothing.
-use Prim.Native.Nat.{ℕ, suc, _+_, _-_, _*_, _≤_, _<_, _^_}
+use Prim.Native.Nat.{ℕ, _-_, _*_, _≤_, _<_, _^_}
 use mathlib.Core.Path.{_≡_, sym, ap, _∙_}
 use mathlib.Core.Bool.{Bool, true, false}
 use native.Mathlib.Omega.{arith}
@@ -11,7 +11,7 @@ use borrow.Fn.PlainCycle.{Measures, is, falls, and}
 use Rattle.number.specs.declared.Level.{Level}
 use Rattle.number.specs.Blocks.{blocks}
 use Rattle.ivfc.specs.Blocks.{parent}
-use Rattle.ivfc.specs.Views.{levelOf, contentOf, verified}
+use Rattle.ivfc.specs.Views.{levelOf, verified}
 use Rattle.ivfc.proofs.ViewLaws.{block-small}
 use Rattle.ivfc.proofs.EntryLaws.{parent-mono}
 use Rattle.ivfc.proofs.VerifiedLaws.{parent-above}

@@ -1,11 +1,9 @@
 -- `clear_for`: a block at an end that is not covered in full is verified. Assumes nothing.
-use mathlib.Core.Path.{_≡_, ap, _∙_}
 use Prim.Native.Nat.{ℕ, _+_, _≤_, _<_, _^_}
 use native.Mathlib.Omega.{arith}
 use borrow.Author.Needs.{needs}
 use lib.ListN.{length}
 use Rattle.number.specs.Blocks.{blocks}
-use Rattle.ivfc.specs.Views.{levelOf}
 use Rattle.ivfc.proofs.ViewLaws.{level-small}
 use Rattle.update.proofs.StagedLaws.{staged}
 use Rattle.update.proofs.CodeLaws.{ends-fit, ends-ordered, ends-exist, first-known, last-known}

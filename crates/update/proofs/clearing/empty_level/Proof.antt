@@ -1,8 +1,7 @@
 -- `empty_level` empties one block after another. The loop's invariant: those before b are. Assumes nothing.
-use mathlib.Core.Path.{_≡_, refl, sym, ap, _∙_}
-use Prim.Native.Nat.{ℕ, _≤_, _<_, _-_, _+_}
+use mathlib.Core.Path.{_≡_, refl, ap, _∙_}
+use Prim.Native.Nat.{ℕ, _≤_, _<_, _-_}
 use native.Mathlib.Omega.{arith}
-use borrow.Author.Needs.{needs}
 use lib.ListN.{length}
 use Rattle.ivfc.specs.Views.{matches}
 use Rattle.ivfc.proofs.ViewLaws.{block-small}

@@ -1,7 +1,6 @@
 -- `zero_held` looks at the entries of an interval, then at those above it; the level falls. Assumes nothing.
-use Prim.Native.Nat.{ℕ, suc, _+_, _-_, _*_, _≤_, _<_, _^_}
-use mathlib.Core.Path.{_≡_, sym, ap, _∙_}
-use mathlib.Core.Bool.{Bool, _||_}
+use Prim.Native.Nat.{ℕ, _-_, _*_, _≤_, _<_, _^_}
+use mathlib.Core.Path.{sym, ap, _∙_}
 use native.Mathlib.Omega.{arith}
 use native.Mathlib.Nat.{pos-of-ne-zero}
 use lib.ListN.{length}
@@ -12,7 +11,6 @@ use Rattle.ivfc.specs.Blocks.{parent}
 use Rattle.ivfc.specs.Views.{levelOf, contentOf}
 use Rattle.ivfc.proofs.EntryLaws.{parent-mono}
 use Rattle.ivfc.proofs.VerifiedLaws.{parent-above}
-use Rattle.update.specs.Writing.{zeroHeld}
 use Rattle.update.proofs.CodeLaws.{log-small, below-exists, number-small}
 use Rattle.update.proofs.ClearLaws.{held-none, held-here, held-above}
 use Rattle.update.proofs.zeros.zero_held.Reads as zero-held

@@ -3,10 +3,11 @@ use mathlib.Core.Path.{sym, _∙_}
 use native.Mathlib.Omega.{arith}
 use Rattle.views.specs.Versions.{versionOf}
 use Rattle.names.proofs.OpenLaws.{entries-ask, judged-yes, judged-no}
-use Rattle.entries.proofs.ReadLaws.{level4-is, length-level4, header-is}
+use Rattle.entries.proofs.ReadLaws.{level4-is, header-is}
 use borrow.Author.Needs.{needs}
 use Rattle.walks.proofs.opening.judge_header.Statement.{statement}
 use Rattle.walks.proofs.opening.judge_header.Tie as tie
+use Rattle.views.proofs.VersionLaws.{version-size}
 
 slice-aggregate-gather : tie.Need-slice-aggregate-gather
 slice-aggregate-gather c = search needs
@@ -36,11 +37,11 @@ same-length c = c .before .before .read-entries .kept .1 .1 .1 .0
 
 returns : tie.Need-returns
 returns c =
-    (c .before .before .read-entries .ensures .0 ∙ judged-yes (versionOf (c .before .before .before .before .before .before .before .before .before .before .before .before .before .before .args .view) (c .before .before .before .before .before .before .before .before .before .before .before .before .before .before .args .image .now) .bytes) (versionOf (c .before .before .before .before .before .before .before .before .before .before .before .before .before .before .args .view) (c .before .before .before .before .before .before .before .before .before .before .before .before .before .before .args .image .now) .verified) (c .before .before .before .before .before .before .before .before .before .before .before .before .before .before .args .view .level4 .log) (c .before .before .before .before .before .before .before .before .before .before .before .before .before .before .args .view .level4 .size) (length-level4 (c .before .before .before .before .before .before .before .before .before .before .before .before .before .before .args .view) (c .before .before .before .before .before .before .before .before .before .before .before .before .before .before .args .image .now)) _ _ _ (c .before .before .before .before .before .before .before .before .before .before .gather .ensures ∙ header-is (c .before .before .before .before .before .before .before .before .before .before .before .before .before .before .args .view) (c .before .before .before .before .before .before .before .before .before .before .before .before .before .before .args .image .now) (c .before .before .before .before .before .before .before .before .before .before .before .before .before .before .pre .1)) (c .before .before .before .before .before .before .before .well-formed .ensures) (c .before .before .before .before .before .before .if1 .taken) (c .before .before .before .before .save-of .ensures), c .before .before .read-entries .ensures .1)
+    (c .before .before .read-entries .ensures .0 ∙ judged-yes (versionOf (c .before .before .before .before .before .before .before .before .before .before .before .before .before .before .args .view) (c .before .before .before .before .before .before .before .before .before .before .before .before .before .before .args .image .now) .bytes) (versionOf (c .before .before .before .before .before .before .before .before .before .before .before .before .before .before .args .view) (c .before .before .before .before .before .before .before .before .before .before .before .before .before .before .args .image .now) .verified) (c .before .before .before .before .before .before .before .before .before .before .before .before .before .before .args .view .level4 .log) (c .before .before .before .before .before .before .before .before .before .before .before .before .before .before .args .view .level4 .size) (version-size (c .before .before .before .before .before .before .before .before .before .before .before .before .before .before .args .view) (c .before .before .before .before .before .before .before .before .before .before .before .before .before .before .args .image .now)) _ _ _ (c .before .before .before .before .before .before .before .before .before .before .gather .ensures ∙ header-is (c .before .before .before .before .before .before .before .before .before .before .before .before .before .before .args .view) (c .before .before .before .before .before .before .before .before .before .before .before .before .before .before .args .image .now) (c .before .before .before .before .before .before .before .before .before .before .before .before .before .before .pre .1)) (c .before .before .before .before .before .before .before .well-formed .ensures) (c .before .before .before .before .before .before .if1 .taken) (c .before .before .before .before .save-of .ensures), c .before .before .read-entries .ensures .1)
 
 returns-2 : tie.Need-returns-2
 returns-2 c =
-    (judged-no (versionOf (c .before .before .before .before .before .before .before .before .args .view) (c .before .before .before .before .before .before .before .before .args .image .now) .bytes) (versionOf (c .before .before .before .before .before .before .before .before .args .view) (c .before .before .before .before .before .before .before .before .args .image .now) .verified) (c .before .before .before .before .before .before .before .before .args .view .level4 .log) (c .before .before .before .before .before .before .before .before .args .view .level4 .size) (length-level4 (c .before .before .before .before .before .before .before .before .args .view) (c .before .before .before .before .before .before .before .before .args .image .now)) _ _ (c .before .before .before .before .gather .ensures ∙ header-is (c .before .before .before .before .before .before .before .before .args .view) (c .before .before .before .before .before .before .before .before .args .image .now) (c .before .before .before .before .before .before .before .before .pre .1)) (c .before .well-formed .ensures) (c .if1 .left), c .before .before .before .before .before .before .before .before .pre .0 .knows)
+    (judged-no (versionOf (c .before .before .before .before .before .before .before .before .args .view) (c .before .before .before .before .before .before .before .before .args .image .now) .bytes) (versionOf (c .before .before .before .before .before .before .before .before .args .view) (c .before .before .before .before .before .before .before .before .args .image .now) .verified) (c .before .before .before .before .before .before .before .before .args .view .level4 .log) (c .before .before .before .before .before .before .before .before .args .view .level4 .size) (version-size (c .before .before .before .before .before .before .before .before .args .view) (c .before .before .before .before .before .before .before .before .args .image .now)) _ _ (c .before .before .before .before .gather .ensures ∙ header-is (c .before .before .before .before .before .before .before .before .args .view) (c .before .before .before .before .before .before .before .before .args .image .now) (c .before .before .before .before .before .before .before .before .pre .1)) (c .before .well-formed .ensures) (c .if1 .left), c .before .before .before .before .before .before .before .before .pre .0 .knows)
 
 pub judge-header-spec : {M : Type 1} → statement M
 judge-header-spec =

@@ -2,12 +2,12 @@
 use native.Mathlib.Omega.{arith}
 use Rattle.views.specs.Versions.{versionOf}
 use Rattle.names.proofs.OpenLaws.{table-is}
-use Rattle.entries.proofs.ReadLaws.{size-small}
 use Rattle.walks.proofs.opening.table_of.Statement.{statement}
 use Rattle.walks.proofs.opening.table_of.Tie as tie
+use Rattle.ivfc.proofs.ViewLaws.{size4-small}
 
 table-place-requires : tie.Need-table-place-requires
-table-place-requires c κs = (c .before .before .pre .1, omega (arith, c .before .before .pre .2, size-small (c .before .before .args .view) _ (c .before .before .pre .0)))
+table-place-requires c κs = (c .before .before .pre .1, omega (arith, c .before .before .pre .2, size4-small (c .before .before .args .view) _ (c .before .before .pre .0)))
 
 word-at-requires : tie.Need-word-at-requires
 word-at-requires c κs = (c .before .before .before .pre .0, omega (arith, c .before .before .before .pre .2, c .table-place .ensures))

@@ -8,19 +8,19 @@ use Rattle.names.specs.Entries.{readAt}
 use Rattle.names.specs.Searching.{chain}
 use Rattle.names.proofs.EntryLaws.{read-place}
 use Rattle.names.proofs.HashLaws.{found-is}
-use Rattle.entries.proofs.ReadLaws.{size-small}
 use borrow.Author.Needs.{needs}
 use Rattle.walks.proofs.searching.find.Statement.{statement}
 use Rattle.walks.proofs.searching.find.Tie as tie
+use Rattle.ivfc.proofs.ViewLaws.{size4-small}
 
 bucket-of-requires : tie.Need-bucket-of-requires
 bucket-of-requires c κs = search needs
 
 mul-at : tie.Need-mul-at
-mul-at c = omega (arith, c .before .before .before .before .pre .3, c .bucket-of .ensures .1, size-small (c .before .before .before .before .args .view) _ (c .before .before .before .before .pre .0 .rules))
+mul-at c = omega (arith, c .before .before .before .before .pre .3, c .bucket-of .ensures .1, size4-small (c .before .before .before .before .args .view) _ (c .before .before .before .before .pre .0 .rules))
 
 add-at : tie.Need-add-at
-add-at c = omega (arith, c .before .before .before .before .before .pre .3, c .before .bucket-of .ensures .1, size-small (c .before .before .before .before .before .args .view) _ (c .before .before .before .before .before .pre .0 .rules))
+add-at c = omega (arith, c .before .before .before .before .before .pre .3, c .before .bucket-of .ensures .1, size4-small (c .before .before .before .before .before .args .view) _ (c .before .before .before .before .before .pre .0 .rules))
 
 read-at-requires : tie.Need-read-at-requires
 read-at-requires c κs = (c .before .before .before .before .before .before .pre .0, omega arith, omega (arith, c .before .before .before .before .before .before .pre .3, c .before .before .bucket-of .ensures .1))

@@ -8,7 +8,6 @@ use Rattle.names.specs.declared.Link.the-variants as link
 use Rattle.names.specs.Entries.{admit}
 use Rattle.names.proofs.HashLaws.{link-zero, link-is, link-named}
 use Rattle.names.proofs.EntryLaws.{admit-at, place-ends}
-use borrow.Author.Needs.{needs}
 use Rattle.walks.proofs.searching.follow.Statement.{statement}
 use Rattle.walks.proofs.searching.follow.Tie as tie
 

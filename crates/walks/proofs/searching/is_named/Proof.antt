@@ -4,13 +4,14 @@ use Prim.Native.Nat.{_+_}
 use native.Mathlib.Omega.{arith}
 use Rattle.views.specs.Versions.{versionOf}
 use Rattle.names.proofs.HashLaws.{named-is}
-use Rattle.entries.proofs.ReadLaws.{size-small, level4-is, bytes-at}
+use Rattle.entries.proofs.ReadLaws.{level4-is, bytes-at}
 use borrow.Author.Needs.{needs}
 use Rattle.walks.proofs.searching.is_named.Statement.{statement}
 use Rattle.walks.proofs.searching.is_named.Tie as tie
+use Rattle.ivfc.proofs.ViewLaws.{size4-small}
 
 add-gather : tie.Need-add-gather
-add-gather c = omega (arith, c .before .before .pre .2, size-small (c .before .before .args .view) _ (c .before .before .pre .0))
+add-gather c = omega (arith, c .before .before .pre .2, size4-small (c .before .before .args .view) _ (c .before .before .pre .0))
 
 slice-aggregate-gather : tie.Need-slice-aggregate-gather
 slice-aggregate-gather c = search needs

@@ -8,9 +8,9 @@ use Rattle.views.specs.Versions.{versionOf}
 use Rattle.names.specs.Searching.{chain, counted}
 use Rattle.names.proofs.ChainLaws.{counted-start, counted-last, counted-next, counted-none, max-small}
 use Rattle.entries.specs.Known.{Knows}
-use Rattle.entries.proofs.ReadLaws.{size-small}
 use Rattle.walks.proofs.searching.search_chain.Statement.{statement}
 use Rattle.walks.proofs.searching.search_chain.Tie as tie
+use Rattle.ivfc.proofs.ViewLaws.{size4-small}
 
 abbrev Inv-loop : tie.InvT-loop
 Inv-loop s view image known₀ first parent name f₀ steps₀ known f steps =
@@ -21,7 +21,7 @@ abbrev μ-loop : tie.MeasureT-loop
 μ-loop s view image known₀ first parent name f₀ steps₀ known f steps = steps
 
 add-steps : tie.Need-add-steps Inv-loop μ-loop
-add-steps c = omega (arith, max-small _ _ _ _ (c .before .before .before .before .pre .1 .file) (c .before .before .before .before .pre .1 .files), size-small (c .before .before .before .before .args .view) _ (c .before .before .before .before .pre .0 .rules))
+add-steps c = omega (arith, max-small _ _ _ _ (c .before .before .before .before .pre .1 .file) (c .before .before .before .before .pre .1 .files), size4-small (c .before .before .before .before .args .view) _ (c .before .before .before .before .pre .0 .rules))
 
 loop-holds : tie.Need-loop-holds Inv-loop μ-loop
 loop-holds c = (refl, omega arith, c .before .before .before .before .pre .0 .knows, counted-start _ _ _ _ _ _ _ refl)
