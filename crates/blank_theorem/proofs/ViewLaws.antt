@@ -1,17 +1,15 @@
 -- What the committed view of a blank image reads. Assumes nothing.
-use Prim.Native.Nat.{ℕ, zero, suc, _+_, _%_, _^_, _≤_, _<_}
+use Prim.Native.Nat.{ℕ, zero, suc, _+_, _≤_, _<_}
 use mathlib.Core.Bool.{Bool, true, false}
 use mathlib.Core.Path.{_≡_, refl, ap, _∙_}
 use native.Mathlib.Omega.{arith}
-use native.Mathlib.Nat.{zero-div}
 use lib.ListN.{length, getD}
-use lib.Dec.{eqb}
 use Rattle.number.specs.declared.Level.{Level}
 use Rattle.number.specs.Blocks.{blocks, blockOf}
 use Rattle.layout.specs.declared.Kind.{Kind}
 use Rattle.layout.specs.Tables.{active}
 use Rattle.layout.proofs.GuaranteeLaws.{guarantees}
-use Rattle.dpfs.specs.Bits.{bitByte, bitPlace, testBit}
+use Rattle.dpfs.specs.Bits.{bitByte, bitPlace}
 use Rattle.dpfs.specs.Tree as dpfs
 use Rattle.dpfs.specs.Tree.{place, levelByte, select2, select3}
 use Rattle.dpfs.proofs.BitLaws.{bit-in-byte}
@@ -33,10 +31,8 @@ use Rattle.blank.proofs.ImageLaws as im
 use Rattle.blank_theorem.proofs.OpenLaws.{opens}
 use Rattle.blank_theorem.proofs.ZeroLaws.{NoneZero, all-none}
 use Rattle.blank_theorem.proofs.TreeLaws.{all-verified}
-
-no-bit : (p : ℕ) → testBit 0 p ≡ false
-unfolding testBit
-no-bit p = ap (λ (x : ℕ). eqb (x % 2) 1) (zero-div (2 ^ p))
+use Rattle.number.proofs.MarkLaws.{zero-bit}
+use Rattle.number.specs.Fields.{testBit}
 
 module _ (kind : Kind) (n : ℕ) (w : Sized n) where
   abbrev whole : View
@@ -60,7 +56,7 @@ module _ (kind : Kind) (n : ℕ) (w : Sized n) where
   bit-zero half k h =
       let p = bits-place (select2 (whole .tree) (image kind n) half (blockOf (whole .tree .level2) (bitByte k))) (bitByte k) h in
       bit-in-byte _ k
-      ∙ ap (λ (x : ℕ). testBit x (bitPlace k)) (im.zero-before n w kind _ (p .0) (p .1)) ∙ no-bit (bitPlace k)
+      ∙ ap (λ (x : ℕ). testBit x (bitPlace k)) (im.zero-before n w kind _ (p .0) (p .1)) ∙ zero-bit (bitPlace k)
 
   first-half : (z : ℕ) → place (whole .tree .level3) false z ≡ 0x2000 + z
   unfolding place committedView viewIn treeIn slotOf partitionOf partition headerOf

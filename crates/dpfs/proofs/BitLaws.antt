@@ -11,7 +11,8 @@ use lib.Dec.{eqb}
 use lib.Pow.{pow-lt, pow-add, pow-pos, shl-shr, shl-exact, shr-shr}
 use lib.ListN.{getD}
 use lib.Bits.{bitXor, xor-shr, xor-mod, xor-zero-r}
-use Rattle.dpfs.specs.Bits.{bitByte, bitPlace, testBit, flipBit, wordOf, bitOf}
+use Rattle.dpfs.specs.Bits.{bitByte, bitPlace, flipBit, wordOf, bitOf}
+use Rattle.number.specs.Fields.{testBit}
 
 -- ---- places
 

@@ -16,12 +16,13 @@ use Rattle.number.proofs.FrameLaws.{keeps-copied}
 use Rattle.number.proofs.ListLaws.{getD-part, length-part, length-copied, copied-in, copied-out}
 use Rattle.number.proofs.BlockLaws.{block-exists, block-starts, block-ends, block-byte}
 use Rattle.dpfs.specs.declared.Tree.{Tree}
-use Rattle.dpfs.specs.Bits.{bitByte, bitPlace, testBit, flipBit, bitOf}
+use Rattle.dpfs.specs.Bits.{bitByte, bitPlace, flipBit, bitOf}
 use Rattle.dpfs.specs.Tree.{place, levelByte}
 use Rattle.dpfs.specs.Free.{FreeCopy}
 use Rattle.dpfs.specs.Staging.{blockCopied, bitFlipped}
 use Rattle.dpfs.specs.Rules.{Disjoint, WellPlaced}
 use Rattle.dpfs.proofs.BitLaws.{byte-inside, places-differ, bit-in-byte, flip-same, flip-other}
+use Rattle.number.specs.Fields.{testBit}
 
 -- ---- places
 

@@ -2,12 +2,8 @@
 -- that byte, follows (proofs/BitLaws.antt, `bit-in-byte`): so a bit is fetched, and flipped, by one byte.
 use mathlib.Core.Bool.{Bool}
 use Prim.Native.Nat.{ℕ, _+_, _-_, _*_, _/_, _%_, _^_}
-use lib.Dec.{eqb}
 use lib.Bits.{bitXor}
-
--- bit k of a number
-unfoldable pub testBit : (value k : ℕ) → Bool
-testBit value k = eqb (value / 2 ^ k % 2) 1
+use Rattle.number.specs.Fields.{testBit}
 
 -- word w of a half that has the byte f y at y: its four bytes, each a number below 0x100, the least significant first
 unfoldable pub wordOf : (ℕ → ℕ) → (w : ℕ) → ℕ

@@ -4,7 +4,7 @@ use mathlib.Core.Bool.{true}
 use mathlib.Core.List.{List, [], _∷_, _++_}
 use Prim.Native.Nat.{ℕ, _/_, _%_}
 use lib.ListN.{length, replicate}
-use Rattle.number.specs.Fields.{le16, le32, le64}
+use Rattle.number.specs.Fields.{le16, le32, le64, testBit}
 use Rattle.number.specs.Ranges.{inside, apart, fits, clear, placed, part}
 use Rattle.number.specs.Bytes.{bytes, sameBytes}
 use Rattle.number.specs.Blocks.{blocks, blockSize, blockOf, blockLength}
@@ -23,7 +23,7 @@ use Rattle.layout.specs.Descriptors.{difiFields, ivfcFields, dpfsFields, partit
 use Rattle.limits.specs.Limits.{sizeAllowed, levelAllowed, lengthAllowed}
 use Rattle.layout.specs.Opening.{opened}
 use Rattle.layout.proofs.GuaranteeLaws.{opens}
-use Rattle.dpfs.specs.Bits.{bitByte, bitPlace, testBit, wordOf, bitOf}
+use Rattle.dpfs.specs.Bits.{bitByte, bitPlace, wordOf, bitOf}
 use Rattle.dpfs.specs.Tree.{place, levelByte, select1, select2, select3, content}
 use Rattle.ivfc.specs.Blocks.{block, entry, parent}
 use Rattle.ivfc.specs.Verified.{zeroEntry, vouches, matches, verified}

@@ -11,7 +11,8 @@ use lib.ListN.{length, getD, set, replicate}
 use lib.Seq.{getD-set-same, getD-set-other}
 use borrow.Author.Tests.{eq-eqb, ne-eqb}
 use Rattle.number.proofs.Tests.{and-left, and-right}
-use Rattle.number.specs.Marks.{bit, marked, left}
+use Rattle.number.specs.Marks.{marked, left}
+use Rattle.number.specs.Fields.{testBit}
 
 pub left-cong : (P Q : ℕ → Bool) (n : ℕ) → ((x : ℕ) → x < n → P x ≡ Q x) → left P n ≡ left Q n
 unfolding left
@@ -67,10 +68,10 @@ below-holds p (suc n) h k l = go (ℕ-discrete k n) (λ o. below-holds p n (and-
 
 -- where bit k of b is not set, b + 2^k has it, and the other bits of b
 right : (b k j : ℕ) → Bool
-right b k j = bit b k || Bool·beq (bit ((b + 2 ^ k) % 0x100) j) (eqb j k || bit b j)
+right b k j = testBit b k || Bool·beq (testBit ((b + 2 ^ k) % 0x100) j) (eqb j k || testBit b j)
 
 table : all-below (λ b. all-below (λ k. all-below (right b k) 8) 8) 0x100 ≡ true
-unfolding all-below right bit
+unfolding all-below right testBit
 table = refl
 
 beq-is : (a b : Bool) → Bool·beq a b ≡ true → a ≡ b
@@ -79,10 +80,10 @@ beq-is false false h = refl
 beq-is true false h = absurd (true≢false (sym h))
 beq-is false true h = absurd (true≢false (sym h))
 
-pub bit-set : (b k j : ℕ) → b < 0x100 → k < 8 → j < 8 → bit b k ≡ false → bit ((b + 2 ^ k) % 0x100) j ≡ (eqb j k || bit b j)
+pub bit-set : (b k j : ℕ) → b < 0x100 → k < 8 → j < 8 → testBit b k ≡ false → testBit ((b + 2 ^ k) % 0x100) j ≡ (eqb j k || testBit b j)
 unfolding right
 bit-set b k j x y z h =
-    beq-is _ _ (ap (λ (t : Bool). t || Bool·beq (bit ((b + 2 ^ k) % 0x100) j) (eqb j k || bit b j)) (sym h)
+    beq-is _ _ (ap (λ (t : Bool). t || Bool·beq (testBit ((b + 2 ^ k) % 0x100) j) (eqb j k || testBit b j)) (sym h)
     ∙ below-holds (right b k) 8 (below-holds (λ k. all-below (right b k) 8) 8 (below-holds (λ b. all-below (λ k. all-below (right b k) 8) 8) 0x100 table b x) k y) j z)
 
 -- a store of that byte marks its number and no other
@@ -98,15 +99,15 @@ mark-set m e v l b h q x = go (ℕ-discrete (x / 8) (e / 8))
         at (yes s) = eq-eqb (x % 8) (e % 8) (ap (λ (y : ℕ). y % 8) s) ∙ sym (eq-eqb x e s)
         at (no s) = ne-eqb (x % 8) (e % 8) (λ i. s (omega arith)) ∙ sym (ne-eqb x e s)
 
-    go : Dec (x / 8 ≡ e / 8) → bit (getD (set m (e / 8) v) (x / 8) 0) (x % 8) ≡ (eqb x e || bit (getD m (x / 8) 0) (x % 8))
+    go : Dec (x / 8 ≡ e / 8) → testBit (getD (set m (e / 8) v) (x / 8) 0) (x % 8) ≡ (eqb x e || testBit (getD m (x / 8) 0) (x % 8))
     go (yes k) =
-        ap (λ (y : ℕ). bit y (x % 8)) (ap (λ (i : ℕ). getD (set m (e / 8) v) i 0) k ∙ getD-set-same m (e / 8) v 0 l ∙ q)
+        ap (λ (y : ℕ). testBit y (x % 8)) (ap (λ (i : ℕ). getD (set m (e / 8) v) i 0) k ∙ getD-set-same m (e / 8) v 0 l ∙ q)
         ∙ bit-set (getD m (e / 8) 0) (e % 8) (x % 8) b (omega arith) (omega arith) h
-        ∙ ap (λ (t : Bool). t || bit (getD m (e / 8) 0) (x % 8)) (same k)
-        ∙ ap (λ (i : ℕ). eqb x e || bit (getD m i 0) (x % 8)) (sym k)
+        ∙ ap (λ (t : Bool). t || testBit (getD m (e / 8) 0) (x % 8)) (same k)
+        ∙ ap (λ (i : ℕ). eqb x e || testBit (getD m i 0) (x % 8)) (sym k)
     go (no k) =
-        ap (λ (y : ℕ). bit y (x % 8)) (getD-set-other m (e / 8) (x / 8) v 0 k)
-        ∙ sym (ap (λ (t : Bool). t || bit (getD m (x / 8) 0) (x % 8)) (ne-eqb x e (λ i. k (ap (λ (y : ℕ). y / 8) i))))
+        ap (λ (y : ℕ). testBit y (x % 8)) (getD-set-other m (e / 8) (x / 8) v 0 k)
+        ∙ sym (ap (λ (t : Bool). t || testBit (getD m (x / 8) 0) (x % 8)) (ne-eqb x e (λ i. k (ap (λ (y : ℕ). y / 8) i))))
 
 pub left-pos : (P : ℕ → Bool) (e n : ℕ) → e < n → P e ≡ false → 0 < left P n
 left-pos P e n l p = omega (arith, left-fewer P (λ x. eqb x e || P x) e n l p (λ x. refl))
@@ -116,10 +117,11 @@ zeros-at zero i = refl
 zeros-at (suc n) zero = refl
 zeros-at (suc n) (suc i) = zeros-at n i
 
-zero-bit : (k : ℕ) → eqb (0 / 2 ^ k % 2) 1 ≡ false
+pub zero-bit : (k : ℕ) → testBit 0 k ≡ false
+unfolding testBit
 zero-bit k = ap (λ (q : ℕ). eqb (q % 2) 1) (zero-div (2 ^ k))
 
 -- nothing is marked in zeros
 pub zeros-unmarked : (n x : ℕ) → marked (replicate n 0) x ≡ false
-unfolding marked bit
-zeros-unmarked n x = ap (λ (b : ℕ). eqb (b / 2 ^ (x % 8) % 2) 1) (zeros-at n (x / 8)) ∙ zero-bit (x % 8)
+unfolding marked
+zeros-unmarked n x = ap (λ (b : ℕ). testBit b (x % 8)) (zeros-at n (x / 8)) ∙ zero-bit (x % 8)

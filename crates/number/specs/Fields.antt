@@ -1,6 +1,8 @@
--- Little-endian fields of a list of bytes. Past the list's end a byte is 0.
-use Prim.Native.Nat.{ℕ, _+_, _*_}
+-- Little-endian fields of a list of bytes, past whose end a byte is 0; and the bits of a number.
+use Prim.Native.Nat.{ℕ, _+_, _*_, _/_, _%_, _^_}
+use mathlib.Core.Bool.{Bool}
 use mathlib.Core.List.{List}
+use lib.Dec.{eqb}
 use lib.ListN.{getD}
 
 -- two bytes from `at` on, the least significant first
@@ -14,3 +16,7 @@ le32 s at = le16 s at + 0x10000 * le16 s (at + 2)
 -- eight bytes
 unfoldable pub le64 : List ℕ → ℕ → ℕ
 le64 s at = le32 s at + 0x100000000 * le32 s (at + 4)
+
+-- bit k of a number
+unfoldable pub testBit : (value k : ℕ) → Bool
+testBit value k = eqb (value / 2 ^ k % 2) 1

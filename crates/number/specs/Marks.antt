@@ -1,17 +1,14 @@
 -- Marks: one bit for each number, bit x % 8 of byte x / 8. Past the end nothing is marked.
-use Prim.Native.Nat.{ℕ, zero, suc, _/_, _%_, _^_}
+use Prim.Native.Nat.{ℕ, zero, suc, _/_, _%_}
 use mathlib.Core.Path.{_≡_}
 use mathlib.Core.Bool.{Bool, cond, _||_}
 use mathlib.Core.List.{List}
 use lib.Dec.{eqb}
 use lib.ListN.{getD}
-
--- bit k of a byte
-unfoldable pub bit : (b k : ℕ) → Bool
-bit b k = eqb (b / 2 ^ k % 2) 1
+use Rattle.number.specs.Fields.{testBit}
 
 unfoldable pub marked : List ℕ → ℕ → Bool
-marked m x = bit (getD m (x / 8) 0) (x % 8)
+marked m x = testBit (getD m (x / 8) 0) (x % 8)
 
 -- the marks with one more
 abbrev pub Marks : (marks : List ℕ) → (e : ℕ) → (after : List ℕ) → Type 0

@@ -4,11 +4,12 @@ ghost use mathlib.Core.Path.{_≡_};
 ghost use mathlib.Core.Bool.{false};
 ghost use Prim.Native.Nat.{_+_, _/_, _%_, _^_, _<_};
 ghost use lib.ListN.{length};
-ghost use Rattle.number.specs.Marks.{bit, marked, Marks};
+ghost use Rattle.number.specs.Fields.{testBit};
+ghost use Rattle.number.specs.Marks.{marked, Marks};
 
 fn has_bit(b: u8, k: u64) -> bool
     requires { ⌜ k < 64 ⌝ }
-    ensures { λ r. ⌜ r ≡ bit b k ⌝ }
+    ensures { λ r. ⌜ r ≡ testBit b k ⌝ }
 {
     (b as u64 >> k) % 2 == 1
 }

@@ -4,7 +4,7 @@ use mathlib.Core.Path.{_≡_}
 use mathlib.Core.List.{List}
 use mathlib.Core.Bool.{Bool, true}
 use mathlib.Core.Logic.{_⊎_}
-use Prim.Native.Nat.{ℕ, _+_, _*_, _<_}
+use Prim.Native.Nat.{ℕ, _+_, _<_}
 use Rattle.number.specs.declared.Range.{Range}
 use Rattle.number.specs.declared.Level.{Level}
 use Rattle.number.specs.Blocks.{blockOf}
@@ -15,6 +15,7 @@ use Rattle.dpfs.specs.declared.Tree.{Tree}
 use Rattle.dpfs.specs.Tree.{place, select1, select2, select3}
 use Rattle.dpfs.specs.Free.{InRange}
 use Rattle.views.specs.Places.{partitions, slotOf, partitionOf, treeOf}
+use Rattle.number.specs.Ranges.{levelRange, twice}
 
 -- i is the place of a level's byte in the copy that the selection names
 unfoldable pub LiveCopy : Level → (selection : ℕ → Bool) → (i : ℕ) → Type 0
@@ -29,7 +30,7 @@ LiveIn tree image i =
 
 -- the pair of halves of a level
 abbrev pub pairRange : Level → Range
-pairRange l = record { offset = l .offset; size = 2 * l .size }
+pairRange l = twice (levelRange l)
 
 -- an external level 4 at its place in the image
 unfoldable pub ExternalByte : Container → (q i : ℕ) → Type 0

@@ -1,10 +1,11 @@
 -- The byte that holds the bit, shifted, is odd exactly if the bit is set. Assumes nothing.
 use native.Mathlib.Omega.{arith}
-use Rattle.dpfs.specs.Bits.{testBit, bitPlace}
+use Rattle.dpfs.specs.Bits.{bitPlace}
 use Rattle.dpfs.proofs.BitLaws.{fetched}
 use borrow.Author.Needs.{needs}
 use Rattle.dpfs.proofs.bits.bit_in.Statement.{statement}
 use Rattle.dpfs.proofs.bits.bit_in.Tie as tie
+use Rattle.number.specs.Fields.{testBit}
 
 byte-of-bit-requires : tie.Need-byte-of-bit-requires
 byte-of-bit-requires c κs = search needs
