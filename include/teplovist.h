@@ -4,13 +4,13 @@
  * A call works on what the caller lends it, an image that is decrypted and whole or a running digest, and keeps nothing between calls. The
  * first 16 bytes of an image are its signature: the AES-CMAC, under a key that the host hands in, of the SHA-256 of the block that
  * teplovist_signing_block builds. teplovist_open_signed checks it, teplovist_commit_signed and teplovist_revert_signed store it with the header;
- * every other call but that for a blank image neither reads nor changes it, so that after a plain commit the host signs again. No call but that
- * for a blank image reads or changes the bytes from 0x10 to 0xFF.
+ * no other call reads it, and none but that for a blank image changes it, so that after a plain commit the host signs again. No call reads the
+ * bytes from 0x10 to 0xFF, and only that for a blank image changes them.
  *
  * A pointer and a length lend that many bytes for the call. Both are taken as they are, so they must be right: no pointer may be null, not
  * even where the length is 0 (it is not followed then); the bytes must be there, in one object, so no length is above PTRDIFF_MAX; a session
- * is 513 bytes, a key 16, a name 16, a block 284, a running digest 104 and a digest 32, a description is 80 numbers and a signer 4, aligned as
- * a uint64_t is. Of a call that breaks this nothing is promised, no refusal either. A length that is right, but too much, is refused: an image
+ * is 513 bytes, a key 16, a name 16, a block 284, a running digest 104 and a digest 32; a description is 80 numbers and a signer 4, and these and
+ * fault records are aligned as a uint64_t is. Of a call that breaks this nothing is promised, no refusal either. A length that is right, but too much, is refused: an image
  * above 0x4000000 bytes by 1, a buffer or data past level 4's end by 9, and a piece that makes a message too long by 22.
  *
  * Two arguments of one call must not overlap. Any number of calls may read one image at a time; a call that changes one must be alone with it.
@@ -49,7 +49,7 @@ enum {
     TEPLOVIST_OUT_OF_RANGE = 9,     /* place plus length exceeds level 4's size; there is no such block */
     TEPLOVIST_UNVERIFIED = 10,      /* read and names: a touched block is not verified; write: one that it covers only in part is not */
     TEPLOVIST_SESSION_STATE = 13,   /* the session is idle where begun is needed, or begun where idle is */
-    TEPLOVIST_STALE = 14,           /* the header or the inactive table is not as the session left it */
+    TEPLOVIST_STALE = 14,           /* the header is not the remembered one, or the inactive table is not the active one with its selectors flipped and any master hashes */
     TEPLOVIST_SIGNER_KIND = 15,     /* the container's kind does not fit the signer's type */
     TEPLOVIST_SIGNATURE = 16,       /* the first 16 bytes are not the signature */
     TEPLOVIST_ZERO_DIGEST = 17,     /* a digest that the finished write, or the blank image, would hold is all zero */
@@ -157,9 +157,9 @@ enum {
 #define TEPLOVIST_NAME_SIZE 16
 
 /*
- * A running digest is 104 bytes that the caller keeps: the hash value's eight words, the block whose front waits to be full, and how many
- * bytes were fed, each number with its least significant byte first. Any 104 bytes are one, but only what teplovist_digest_start made, and
- * was then fed, is the digest of a message.
+ * A running digest is 104 bytes that the caller keeps: the hash value's eight words, the block whose front waits to be full (what stands
+ * behind the front has no meaning), and how many bytes were fed, each number with its least significant byte first. Any 104 bytes are one, but
+ * only what teplovist_digest_start made, and was then fed, is the digest of a message.
  */
 #define TEPLOVIST_DIGEST_STATE_SIZE 104
 
@@ -255,7 +255,8 @@ uint64_t teplovist_revert(uint8_t *image, size_t image_length, uint8_t *session)
 
 /*
  * The same with a signature: stores the signature of the restored header, under a key by a signer, together with that header, as
- * teplovist_commit_signed does, so that teplovist_open_signed accepts the image. Refusals: 13 if begun, 21, 15.
+ * teplovist_commit_signed does, so that teplovist_open_signed accepts the image. The signer's type must fit the restored header's kind, which is the
+ * present one's where the session's own commit is taken back. Refusals: 13 if begun, 21, 15.
  */
 uint64_t teplovist_revert_signed(uint8_t *image, size_t image_length, uint8_t *session, const uint8_t *key,
                                  const uint64_t *signer);

@@ -1,4 +1,5 @@
-"""Checks the citations `FILE#NAME` and `FILE` of the pages that are given, and prints those that do not hold."""
+"""Checks the citations `FILE#NAME` and `FILE` of the pages that are given, and the links [`NAME`](FILE) to files of ours, and prints those that do not
+hold. A file is named from the project's root or from the page; what a build makes (target/) is not looked for."""
 import os
 import re
 import sys
@@ -23,8 +24,11 @@ KEYWORDS = frozenset('const else enum extern fn for if impl in let loop match mo
 def cited(page):
     for number, line in enumerate(open(page, encoding='utf-8'), 1):
         for text in re.findall(r'`([^`]+)`', line):
-            if re.fullmatch(r'[\w./-]+/[\w.-]+(?:#\S+)?', text):
-                yield number, text
+            if re.fullmatch(r'[\w./-]+/[\w.-]+(?:#\S+)?', text) and not text.startswith('target/'):
+                beside = os.path.join(os.path.dirname(page), text)
+                yield number, os.path.normpath(beside) if os.path.exists(beside.partition('#')[0]) else text
+        for name, target in re.findall(r'\[`([^`/]+)`\]\(([^)]+)\)', line):
+            yield number, os.path.normpath(os.path.join(os.path.dirname(page), target)) + '#' + name
 
 
 def defines(path, name):

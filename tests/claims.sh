@@ -1,6 +1,6 @@
 #!/usr/bin/env bash
-# docs/CLAIMS.md cites definitions, contracts, theorems and tests as `FILE#NAME` (or `FILE` alone). This fails where a page or a cited file
-# is not there, or does not define the cited name, so that the pages cannot rot. First the check itself is tried on pages that are wrong.
+# docs/CLAIMS.md cites definitions, contracts, theorems and tests as `FILE#NAME` (or `FILE` alone), and other pages do too. This fails where a page or a
+# cited file is not there, or does not define the cited name, so that the pages cannot rot. First the check itself is tried on pages that are wrong.
 set -eu
 cd "$(dirname "$0")/.."
 pages=$(mktemp -d)
@@ -38,6 +38,10 @@ reports_name include/teplovist.h teplovist_open
 printf 'A sentence, settled by `crates/ivfc/src/nowhere.rt`.\n' > "$pages/page.md"
 reports "$pages/page.md" 'page.md:1: no file crates/ivfc/src/nowhere.rt'
 reports "$pages/missing.md" "no page $pages/missing.md"
+printf 'A sentence ([`no_such_law`](%s)).\n' "$PWD/crates/ivfc/specs/Verified.antt" > "$pages/page.md"
+reports "$pages/page.md" 'Verified.antt defines no no_such_law'
+printf 'A sentence ([`verified`](nowhere/Verified.antt)).\n' > "$pages/page.md"
+reports "$pages/page.md" 'page.md:1: no file'
 printf 'A sentence that cites nothing.\n' > "$pages/page.md"
 reports "$pages/page.md" 'claims: 0 citations, 0 wrong'
 
@@ -47,4 +51,4 @@ if grep -nE '^(<{7}|={7}|>{7})( |$)' README.md host/*.md docs/*.md docs/landings
   exit 1
 fi
 
-python3 tests/claims.py docs/CLAIMS.md docs/TRUST.md docs/THEOREM.md docs/RELIABILITY.md
+python3 tests/claims.py docs/*.md README.md host/*.md

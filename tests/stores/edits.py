@@ -31,9 +31,10 @@ BEGUN = lines('stage_image(space_of(c), c, image);')
 SWITCHED = lines('switch_tables(image, c);')
 HEADER_STORED = lines('store_header(image, next);')
 SIGNATURE_STORED = lines('copy_into(image, 0, &signature);')
+SIGNED_HEADER = lines('copy_into(image, HEADER, &header);')
 SIGNED = lines('switch_signed(image, c, key, signer);')
-RESTORED = lines('restore(image, former);')
-SIGNED_BACK = lines('restore_signed(image, restored, key, signer);')
+RESTORED = lines('store_header(image, former);')
+SIGNED_BACK = lines('store_signed(image, restored, key, signer);')
 PUT = lines('put_level(space, view, image, 4, x, values);')
 NEW = '// A session that remembers nothing.\n'
 STAGE_IMAGE = "// And each partition's other half"
@@ -148,11 +149,11 @@ OTHER_SPACES = [
         'partition place (now (bytes .entry))) ⌝ }\n{\n    let answer = enter(image, session);',
         'partition place (now (bytes .entry))) ⌝ }\n{\n    let answer = enter(&image[1..], session);')]}),
     ('an entering that opens a part of the image', 'steps::entering::enter: is to open its image, whole and once', {ENTERING: [(
-        'Enters (now (image .entry)) session r ⌝ }\n{\n    let answer = open(image);',
-        'Enters (now (image .entry)) session r ⌝ }\n{\n    let answer = open(&image[1..]);')]}),
+        'entered (now (image .entry)) session ⌝ }\n{\n    let answer = open(image);',
+        'entered (now (image .entry)) session ⌝ }\n{\n    let answer = open(&image[1..]);')]}),
     ('a step back that opens twice', 'steps::entering::enter_back: is to open its image, whole and once', {ENTERING: [(
-        'StepsBack (now (image .entry)) session r ⌝ }\n{\n    let answer = open(image);',
-        'StepsBack (now (image .entry)) session r ⌝ }\n{\n    let _first = open(image);\n    let answer = open(image);')]}),
+        'enteredBack (now (image .entry)) session ⌝ }\n{\n    let answer = open(image);',
+        'enteredBack (now (image .entry)) session ⌝ }\n{\n    let _first = open(image);\n    let answer = open(image);')]}),
 ]
 
 ONE_HEADER = 'commit: commits::store_header is to have the image from one call'
@@ -162,7 +163,7 @@ OTHER_COMMITS = [
     ('a header in a loop', ONE_HEADER, {COMMITTING: [(HEADER_STORED, lines(
         'let mut k = 0;', 'while k < 2 {', '    store_header(image, next);', '    k += 1;', '}'))]}),
     ('a header that calls itself', ONE_HEADER, {COMMITTING: [after(
-        lines('copy_into(image, HEADER, &header);'), 'if header[0] != image[HEADER] {', '    store_header(image, header);', '}')]}),
+        '{\n' + SIGNED_HEADER, 'if header[0] != image[HEADER] {', '    store_header(image, header);', '}')]}),
     ('two commits', 'commit: commits::switch_tables is to have the image from one call', {
         SESSIONS: [after(SWITCHED, 'switch_tables(image, c);')]}),
     ('each byte of the header twice', 'number::runs::copy_into: is not, statement by statement', {RUNS: [before(
@@ -176,6 +177,8 @@ OTHER_COMMITS = [
         SIGNATURE_STORED, 'copy_into(image, 0, &[0u8; 16]);')]}),
     ('a signature over the bytes behind it', 'commits::store_signed: is not, statement by statement', {COMMITTING: [(
         SIGNATURE_STORED, lines('copy_into(image, 16, &signature);'))]}),
+    ('a header before its signature', 'commits::store_signed: is not, statement by statement', {COMMITTING: [(
+        SIGNATURE_STORED + SIGNED_HEADER, SIGNED_HEADER + SIGNATURE_STORED)]}),
     ('a signed commit that commits twice', 'commit_signed: commits::switch_signed is to have the image from one call', {
         SESSIONS: [after(SIGNED, 'switch_signed(image, c, key, signer);')]}),
     ('a signed commit that stores the header before', 'commit_signed reaches commits::switch_tables', {
@@ -233,28 +236,28 @@ OTHER_PLACES = [
         '(i ≤ 4) × (first ≤ last) × (last < blocks', '(i ≤ 5) × (first ≤ last) × (last < blocks')]}),
 ]
 
-TWICE_BACK = 'revert: commits::restore is to have the image from one call'
+TWICE_BACK = 'revert: commits::store_header is to have the image from one call'
 
 OTHER_REVERTS = [
     ('a revert that tries the former header by storing it', TWICE_BACK, {SESSIONS: [(RESTORED, lines(
-        'let later = session.later;', 'restore(image, former);', 'let tried = open(image);', 'let Opened::Valid(_d) = tried else {', '    restore(image, later);',
+        'let later = session.later;', 'store_header(image, former);', 'let tried = open(image);', 'let Opened::Valid(_d) = tried else {',
+        '    store_header(image, later);',
         '    return refused(session, Refusal::NothingToRevert);', '};'))]}),
-    ('a revert that stores twice', TWICE_BACK, {SESSIONS: [after(RESTORED, 'restore(image, former);')]}),
-    ('a revert of two headers', 'revert: commits::store_header is to have the image from one call', {COMMITTING: [before(
-        lines('store_header(image, former);'), 'store_header(image, [0u8; 256]);')]}),
+    ('a revert that stores twice', TWICE_BACK, {SESSIONS: [after(RESTORED, 'store_header(image, former);')]}),
+    ('a revert of two headers', TWICE_BACK, {SESSIONS: [before(RESTORED, 'store_header(image, [0u8; 256]);')]}),
     ('a revert that commits before', 'revert reaches commits::switch_tables', {SESSIONS: [before(RESTORED, 'switch_tables(image, _c);')]}),
     ('a store by a revert itself', 'revert: the image is stored to by container::sessions::revert', {SESSIONS: [before(
         RESTORED, 'let value = image[0x300];', 'image[0x300] = value;')]}),
     ('a store by a revert, put back', 'revert: the image is stored to by stores::staging::store', {SESSIONS: [before(
         RESTORED, 'let at = layout::tables::inactive_range(_c.header).offset;', 'let value = image[at as usize];',
         'stores::staging::store(space_of(_c), image, at, 0);', 'stores::staging::store(space_of(_c), image, at, value);')]}),
-    ('a signed revert that stores twice', 'revert_signed: commits::restore_signed is to have the image from one call', {
-        SESSIONS: [after(SIGNED_BACK, 'restore_signed(image, restored, key, signer);')]}),
-    ('a signed revert that stores the header before', 'revert_signed reaches commits::restore', {
-        SESSIONS: [before(SIGNED_BACK, 'restore(image, restored);')]}),
-    ('a revert that signs', 'revert reaches commits::restore_signed', {SESSIONS: [before(
-        RESTORED, 'restore_signed(image, former, [0u8; 16], Signer::Card);')]}),
-    ('a commit that goes back', 'commit reaches commits::restore', {SESSIONS: [after(SWITCHED, 'restore(image, header);')]}),
+    ('a signed revert that stores twice', 'revert_signed: commits::store_signed is to have the image from one call', {
+        SESSIONS: [after(SIGNED_BACK, 'store_signed(image, restored, key, signer);')]}),
+    ('a signed revert that stores the header before', 'revert_signed reaches commits::store_header', {
+        SESSIONS: [before(SIGNED_BACK, 'store_header(image, restored);')]}),
+    ('a revert that signs', 'revert reaches commits::store_signed', {SESSIONS: [before(
+        RESTORED, 'store_signed(image, former, [0u8; 16], Signer::Card);')]}),
+    ('a commit that goes back', ONE_HEADER, {SESSIONS: [after(SWITCHED, 'store_header(image, header);')]}),
     ('a begin under another header', 'begin: steps::beginning::stage_image has a container from layout::opening::open_under', in_begin(
         'let crafted = [0u8; 256];', 'let answer = layout::opening::open_under(image, &crafted);',
         'let layout::Opened::Valid(other) = answer else {', '    return;', '};',

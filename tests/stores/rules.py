@@ -31,8 +31,8 @@ PUT_LEVEL = 'update::put_level'
 UNITS = {
     'commit': (['commits::switch_tables', 'commits::store_header'], 1),
     'commit_signed': (['commits::switch_signed', 'commits::store_signed'], 2),
-    'revert': (['commits::restore', 'commits::store_header'], 1),
-    'revert_signed': (['commits::restore_signed', 'commits::store_signed'], 2),
+    'revert': (['commits::store_header'], 1),
+    'revert_signed': (['commits::store_signed'], 2),
 }
 SESSION_CALLS = ['begin', 'write', *UNITS]
 
@@ -168,18 +168,20 @@ PINNED = {
         _0 = rvOpd(unit)
         return''',
     'commits::store_signed': '''
-        _4 = rvOpd(_2)
-        _5 = rvOpd(_3)
-        _7 = &(*_1.0)
-        _8 = aggregate(_7, _1.1)
-        _9 = &_4
-        _10 = aggregate(_9, int 16)
-        _6 = number::runs::copy_into(_8, int 0, _10)
-        _11 = &(*_1.0)
-        _12 = aggregate(_11, _1.1)
-        _13 = &_5
-        _14 = aggregate(_13, int 256)
-        _6 = number::runs::copy_into(_12, int 256, _14)
+        _5 = rvOpd(_2)
+        _8 = &_5
+        _7 = signatures::sign(_3, _4, _8)
+        _6 = rvOpd(_7)
+        _10 = &(*_1.0)
+        _11 = aggregate(_10, _1.1)
+        _12 = &_6
+        _13 = aggregate(_12, int 16)
+        _9 = number::runs::copy_into(_11, int 0, _13)
+        _14 = &(*_1.0)
+        _15 = aggregate(_14, _1.1)
+        _16 = &_5
+        _17 = aggregate(_16, int 256)
+        _9 = number::runs::copy_into(_15, int 256, _17)
         _0 = rvOpd(unit)
         return''',
     COPY: '''

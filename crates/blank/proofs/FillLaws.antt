@@ -7,6 +7,7 @@ use native.Mathlib.Omega.{arith}
 use native.Mathlib.Nat.{add-zero, zero-add}
 use lib.ListN.{length, getD, length-append, length-replicate}
 use lib.Seq.{sets, length-sets}
+use Rattle.number.specs.Fields.{fieldBytes}
 use Rattle.number.specs.declared.Level.{Level}
 use Rattle.number.specs.Blocks.{blockSize, blocks, blockLength}
 use Rattle.number.proofs.ListLaws.{sets-append, sets-in}
@@ -21,7 +22,6 @@ use Rattle.ivfc.specs.Rows.{digests}
 use Rattle.ivfc.proofs.EntryLaws.{block-cong}
 use Rattle.blank.specs.Rules.{bytesFrom}
 use Rattle.blank.specs.Sizes.{h1, h2, h3, ivfc2, ivfc3, ivfc4, place4, size1, size2, size3, place2, place3, partitionSize, imageSize}
-use Rattle.signing.specs.Blocks.{fieldBytes}
 use Rattle.blank.specs.Fields.{eights, levelFields}
 use Rattle.blank.specs.Image.{zeros, byte2, byte3, byte4, headerWith, hashes1, hashes2, hashes3, difi, ivfc, dpfs, pieces, disaFields, diffFields, halfPlace, hashed}
 use Rattle.blank.specs.Making.{someZero, zeroHashes}

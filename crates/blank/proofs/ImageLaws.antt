@@ -7,6 +7,7 @@ use native.Mathlib.Omega.{arith}
 use lib.ListN.{length, getD, take, drop, length-append, length-replicate, getD-replicate, List·getD-eq-default}
 use lib.Seq.{sets, length-sets, ext-getD, getD-append-add}
 use native.Mathlib.Decide.{decLt}
+use Rattle.number.specs.Fields.{fieldBytes}
 use Rattle.number.specs.Bytes.{Outside}
 use Rattle.number.specs.Blocks.{blockSize, blocks}
 use Rattle.number.proofs.ListLaws.{length-part, getD-part, part-same, sets-in, sets-out}
@@ -16,7 +17,6 @@ use Rattle.layout.specs.declared.Kind.{Kind}
 use Rattle.layout.specs.declared.Kind.the-variants.{Disa, Diff}
 use Rattle.ivfc.proofs.DigestLaws.{length-digests}
 use Rattle.blank.specs.Sizes.{up, h1, h2, h3, ivfc1, ivfc2, ivfc3, ivfc4, dpfs2, dpfs3, size2, size3, imageSize}
-use Rattle.signing.specs.Blocks.{fieldBytes}
 use Rattle.blank.specs.Fields.{levelFields}
 use Rattle.blank.specs.Image.{zeros, byte1, byte2, byte3, hashes1, hashes2, hashes3, master, difi, ivfc, dpfs, pieces, table, disaFields, diffFields, header, headerPlace, primaryPlace, halfPlace, hashed, image}
 use Rattle.blank.proofs.SizeLaws.{Sized, rounds-to}

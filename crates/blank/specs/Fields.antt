@@ -1,8 +1,8 @@
--- The fields of a blank image's header and table: numbers by the one little-endian writer, that of signed blocks.
+-- The fields of a blank image's header and table, by the one little-endian writer.
 use Prim.Native.Nat.{ℕ}
 use mathlib.Core.List.{List, [], _∷_, _++_}
+use Rattle.number.specs.Fields.{fieldBytes}
 use Rattle.number.specs.declared.Level.{Level}
-use Rattle.signing.specs.Blocks.{fieldBytes}
 
 abbrev pub four : ℕ → List ℕ
 four x = fieldBytes 4 x

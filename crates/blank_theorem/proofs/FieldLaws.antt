@@ -3,8 +3,7 @@ use Prim.Native.Nat.{ℕ, _+_, _*_, _/_, _%_, _^_, _<_}
 use mathlib.Core.Path.{_≡_}
 use native.Mathlib.Omega.{arith}
 use native.Mathlib.Nat.{div-add-mod, mod-eq-of-lt}
-use Rattle.number.specs.Fields.{le16, le32, le64}
-use Rattle.signing.specs.Blocks.{fieldBytes}
+use Rattle.number.specs.Fields.{le16, le32, le64, fieldBytes}
 use Rattle.blank.specs.Fields.{eight}
 
 -- the digits of a number

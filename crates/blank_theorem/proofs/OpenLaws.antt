@@ -10,7 +10,7 @@ use lib.Seq.{take-at, drop-at, take-all}
 use lib.Dec.{leb, eqb}
 use borrow.Author.Tests.{le-leb}
 use Rattle.number.specs.declared.Range.{Range}
-use Rattle.number.specs.Fields.{le16, le32, le64}
+use Rattle.number.specs.Fields.{le16, le32, le64, fieldBytes}
 use Rattle.number.specs.Ranges.{part, inside, apart, fits, clear, placed, twice, levelRange}
 use Rattle.number.specs.Blocks.{blocks}
 use Rattle.number.specs.Bytes.{sameBytes}
@@ -27,7 +27,7 @@ use Rattle.layout.specs.declared.JudgedPartition.the-variants.{GoodPartition}
 use Rattle.layout.specs.Magic.{opensWith, ivfcMagic, dpfsMagic}
 use Rattle.layout.specs.Headers.{noSlot, front, headerBytes, hashRange, judgedHeader, disaHeader, diffHeader, headerMagic, headerFields, selectionAllowed, geometryAllowed}
 use Rattle.layout.specs.Every.{onto, every}
-use Rattle.limits.specs.Limits.{shortestImage, longestImage, lengthAllowed, tableAllowed, entrySize, wordSize, leastLog, leastBitsLog}
+use Rattle.limits.specs.Limits.{shortestImage, longestImage, lengthAllowed, tableAllowed, sizeAllowed, entrySize, wordSize, leastLog, leastBitsLog}
 use Rattle.layout.specs.Opening.{opened}
 use Rattle.layout.specs.Tables.{active, tableMatches}
 use Rattle.layout.specs.Descriptors.{difiFields, ivfcFields, dpfsFields, partitionFields, difiAllowed, ivfcAllowed, dpfsAllowed, formAllowed, piecesPlaced, levelsPlaced, allEnough, enoughBits, enoughEntries, placesAllowed, readable, judgedPartition}
@@ -35,7 +35,6 @@ use Rattle.layout.proofs.HeaderLaws.{HeaderChecks, header-passes}
 use Rattle.layout.proofs.GuaranteeLaws.{TableChecks, partition-passes}
 use Rattle.layout.proofs.GuaranteeLaws as layout
 use Rattle.blank.specs.Sizes.{h1, h2, h3, ivfc1, ivfc2, ivfc3, ivfc4, dpfs2, dpfs3, place4, size1, size2, size3, place2, place3, partitionPlace, partitionSize, imageSize}
-use Rattle.signing.specs.Blocks.{fieldBytes}
 use Rattle.blank.specs.Fields.{levelFields}
 use Rattle.blank.specs.Image.{zeros, master, difi, ivfc, dpfs, pieces, table, disaFields, diffFields, header, secondaryPlace, primaryPlace, tableSize, image}
 use Rattle.blank_theorem.specs.Theorem.{headerOf, partition, container}
@@ -156,7 +155,7 @@ module _ (n : ℕ) (w : Sized n) where
   ones x = omega arith
 
   difi-allowed : difiAllowed (table n) (partition n .difi) ≡ true
-  unfolding difiAllowed every onto opensWith part sameBytes table pieces difi fieldBytes partition
+  unfolding difiAllowed every onto opensWith part sameBytes table pieces difi fieldBytes partition sizeAllowed
   difi-allowed = refl
 
   ivfc-allowed : ivfcAllowed (part (table n) (partition n .difi .ivfc)) (partition n .difi .master .size) (partition n .ivfc) ≡ true

@@ -19,8 +19,7 @@ use Rattle.layout.specs.declared.Kind.{Kind}
 use Rattle.layout.specs.declared.Container.{Container}
 use Rattle.layout.specs.declared.Outcome.{Outcome}
 use Rattle.layout.specs.declared.Outcome.the-variants as outcome
-use Rattle.layout.specs.declared.Refusal.{Refusal}
-use Rattle.layout.specs.declared.Refusal.the-variants.{Unverified, NoPartition, SessionState, Stale}
+use Rattle.layout.specs.declared.Refusal.the-variants.{NoPartition}
 use Rattle.layout.specs.declared.Opened.{Opened}
 use Rattle.layout.specs.declared.Opened.the-variants.{Valid}
 use Rattle.layout.specs.Opening.{opened}
@@ -36,16 +35,17 @@ use Rattle.steps.specs.declared.Ending.the-variants as ending
 use Rattle.steps.specs.declared.Session.{Session}
 use Rattle.steps.specs.Reading.{refuseLowest, readOutcome, readFrom, Read, filled, countIn}
 use Rattle.steps.specs.Sessions.{idle, current, endsOutcome, writeOutcome}
-use Rattle.steps.specs.Calls.{readIn, readCommitted, countVerifiedIn, countVerified, unchanged, done, finished, leaving, inSession, writeOn, write, unread}
+use Rattle.steps.specs.Calls.{readIn, readCommitted, countVerifiedIn, countVerified, unchanged, done, finished, leaving, goesOn, writeOn, write, unread}
+use Rattle.steps.proofs.EnterLaws.{enters}
 use Rattle.steps.proofs.ReadLaws.{first-last, none-refused, nothing-touched, inside-passes, last-exists}
 use Rattle.views.specs.Versions.{Version}
 use Rattle.history.specs.Model.{Call, Write, Accepted, Dropped, endingOf, Model, followed}
 use Rattle.history.specs.Run.{State, perform, ruled, after, events, begins, commits, lastValue}
-use Rattle.history.specs.External.{StartThere}
-use Rattle.history.specs.Theorem.{Start, committedIn, Landed}
+use Rattle.history.specs.External.{StartThere, committedOf}
+use Rattle.history.specs.Theorem.{thereOf, Start, Landed}
 use Rattle.history.proofs.Calls.{call-laws}
 use Rattle.history.proofs.CallCases.{idle-rests}
-use Rattle.history.proofs.Following.{Tracks, Agrees, agrees-on, agrees-first}
+use Rattle.history.proofs.Following.{Tracks, Mirrors, mirrors-on, mirrors-first}
 use Rattle.history.proofs.Demand.{demand3}
 use Rattle.blank.specs.Sizes.{ivfc4}
 use Rattle.blank.specs.Image.{zeros, image}
@@ -57,7 +57,7 @@ use Rattle.layout.proofs.GuaranteeLaws.{one-container}
 
 -- ---- where every block passes, no call is refused for one
 
-module _ (P : ℕ → Bool) (refusal : ℕ → Refusal) (view : View) (place n : ℕ) (next : Outcome) (fits : place + n ≤ view .level4 .size)
+module _ (P : ℕ → Bool) (view : View) (place n : ℕ) (fits : place + n ≤ view .level4 .size)
     (all : (b : ℕ) → b < blocks (view .level4) → P b ≡ true) where
   past : (more : 0 < n) (r : ℕ) → Lowest P (blockOf (view .level4) place) (lastBlock (view .level4) place n) r → lastBlock (view .level4) place n < r
   past more r low = go (decLt (lastBlock (view .level4) place n) r)
@@ -67,13 +67,13 @@ module _ (P : ℕ → Bool) (refusal : ℕ → Refusal) (view : View) (place n :
       go (no p) =
           absurd (true≢false (sym (all r (omega (arith, last-exists view place n more fits))) ∙ low .here (omega arith)))
 
-  all-pass : refuseLowest P refusal view place n next ≡ next
+  all-pass : refuseLowest P view place n ≡ outcome.Accepted
   all-pass = go (decLt 0 n)
     where
-      go : Dec (0 < n) → refuseLowest P refusal view place n next ≡ next
-      go (no p) = nothing-touched P refusal view place n next (omega arith)
+      go : Dec (0 < n) → refuseLowest P view place n ≡ outcome.Accepted
+      go (no p) = nothing-touched P view place n (omega arith)
       go (yes p) =
-          none-refused P refusal view place n _ next p refl
+          none-refused P view place n _ p refl
           (past p _ (first-lowest P (blockOf (view .level4) place) (lastBlock (view .level4) place n) (first-last (view .level4) place n p)))
 
 count-all : (P : ℕ → Bool) (n : ℕ) → ((b : ℕ) → b < n → P b ≡ true) → countOf P n ≡ n
@@ -89,13 +89,13 @@ module _ (view : View) (s : List ℕ) (all : (b : ℕ) → b < blocks (view .lev
   unfolding readOutcome
   read-passes =
       inside-passes view place n _ (le-leb (place + n) (view .level4 .size) fits)
-      ∙ all-pass (verified view s 4) Unverified view place n outcome.Accepted fits all
+      ∙ all-pass (verified view s 4) view place n fits all
 
   write-passes : writeOutcome view s place n ≡ outcome.Accepted
   unfolding writeOutcome endsOutcome
   write-passes =
       inside-passes view place n _ (le-leb (place + n) (view .level4 .size) fits)
-      ∙ all-pass (λ (b : ℕ). covered (view .level4) place n b || verified view s 4 b) Unverified view place n outcome.Accepted fits
+      ∙ all-pass (λ (b : ℕ). covered (view .level4) place n b || verified view s 4 b) view place n fits
       (λ b h. ap (λ (x : Bool). covered (view .level4) place n b || x) (all b h) ∙ or-true (covered (view .level4) place n b))
 
 -- ---- a read and a write of a partition that is there
@@ -106,7 +106,7 @@ module _ (s : List ℕ) (c : Container) (o : opened s ≡ Valid c) (there : 0 < 
       → readCommitted s 0 place buffer ≡ record { outcome = outcome.Accepted; buffer = bytes (contentOf (committedView c 0) s 4) place (length buffer) }
   unfolding readCommitted readFrom
   read-shown all place buffer h =
-      ap (readIn s 0 place buffer) o
+      ap (readIn committedView s 0 place buffer) o
       ∙ answered (ltb 0 (partitions c)) (readOutcome (committedView c 0) s place (length buffer)) (lt-ltb 0 (partitions c) there)
       (read-passes (committedView c 0) s all place (length buffer) h)
     where
@@ -123,21 +123,20 @@ module _ (s : List ℕ) (c : Container) (o : opened s ≡ Valid c) (there : 0 < 
   unfolding write finished
   write-shown session b k all place bytes h =
       go (holdsZero (stagedView c 0) place bytes (writtenTo (stagedView c 0) place bytes s))
-      (ap (λ (x : Opened). endingOf (inSession s session (writeOn s session 0 place bytes) x .outcome)) o
-      ∙ answered (session .begun) (current c s session) (ltb 0 (partitions c))
+      (ap (λ (x : Opened). endingOf (goesOn s session (writeOn s session 0 place bytes) x .outcome)) (sym (enters s session (opened s) refl c o b k))
+      ∙ answered (ltb 0 (partitions c))
       (holdsZero (stagedView c 0) place bytes (writtenTo (stagedView c 0) place bytes s)) (writeOutcome (stagedView c 0) s place (length bytes))
-      b k (lt-ltb 0 (partitions c) there) (write-passes (stagedView c 0) s all place (length bytes) h))
+      (lt-ltb 0 (partitions c) there) (write-passes (stagedView c 0) s all place (length bytes) h))
     where
       last : List ℕ
       last = writtenTo (stagedView c 0) place bytes s
 
-      answered : (t u q z : Bool) (a : Outcome) → t ≡ true → u ≡ true → q ≡ true → a ≡ outcome.Accepted
-          → endingOf (cond t (cond u (cond q
-          (leaving a s session (cond z (record { outcome = ending.Dropped; image = last; session = idle }) (done last session)))
-          (unchanged s session NoPartition)) (unchanged s session Stale)) (unchanged s session SessionState) .outcome)
+      answered : (q z : Bool) (a : Outcome) → q ≡ true → a ≡ outcome.Accepted
+          → endingOf (cond q (leaving a s session (cond z (record { outcome = ending.Dropped; image = last; session = idle }) (done last session)))
+          (unchanged s session NoPartition) .outcome)
           ≡ endingOf (cond z ending.Dropped ending.Accepted)
-      answered t u q true a p0 p1 p2 p3 = rw (p0, p1, p2, p3) refl
-      answered t u q false a p0 p1 p2 p3 = rw (p0, p1, p2, p3) refl
+      answered q true a p e = rw (p, e) refl
+      answered q false a p e = rw (p, e) refl
 
       go : (z : Bool) → endingOf (write s session 0 place bytes .outcome) ≡ endingOf (cond z ending.Dropped ending.Accepted)
           → (endingOf (write s session 0 place bytes .outcome) ≡ Accepted) ⊎ (endingOf (write s session 0 place bytes .outcome) ≡ Dropped)
@@ -163,6 +162,10 @@ module _ (kind : Kind) (n : ℕ) (w : Blank kind n) where
   live4 : live .level4 ≡ ivfc4 n
   unfolding committedView viewIn partitionOf partition
   live4 = refl
+
+  size4 : partitionOf c 0 .ivfc .level4 .size ≡ 0x1000 * n
+  unfolding partitionOf partition
+  size4 = refl
 
   live-four : live .level4 ≡ levelOf live 4
   unfolding levelOf
@@ -196,23 +199,23 @@ module _ (kind : Kind) (n : ℕ) (w : Blank kind n) where
   -- ---- after any list
 
   abbrev modelOf : List Call → Model
-  modelOf calls = followed 0 (events calls st) (record { committed = committedIn (start .has); staged = none })
+  modelOf calls = followed 0 (events calls st) (record { committed = committedOf (thereOf (start .has)); staged = none })
 
-  agrees : (calls : List Call) → Agrees 0 (after calls st) (modelOf calls)
-  agrees calls = agrees-on call-laws 0 calls st (record { committed = committedIn (start .has); staged = none }) (agrees-first call-laws 0 st start)
+  mirrors : (calls : List Call) → Mirrors 0 (after calls st) (modelOf calls)
+  mirrors calls = mirrors-on call-laws 0 calls st (record { committed = committedOf (thereOf (start .has)); staged = none }) (mirrors-first call-laws 0 st start)
 
   whole : (calls : List Call) → WholeModel (ivfc4 n) (modelOf calls)
   whole calls =
-      followed-whole (ivfc4 n) 0 (events calls st) (record { committed = committedIn (start .has); staged = none })
+      followed-whole (ivfc4 n) 0 (events calls st) (record { committed = committedOf (thereOf (start .has)); staged = none })
       (whole-of (ivfc4 n) live (image kind n) live4 stands, tt)
 
   writes : (calls : List Call) (place : ℕ) (bytes : List ℕ) → after calls st .session .begun ≡ true → place + length bytes ≤ 0x1000 * n
       → (ruled (Write 0 place bytes) (after calls st) ≡ Accepted) ⊎ (ruled (Write 0 place bytes) (after calls st) ≡ Dropped)
   unfolding perform
-  writes calls place bytes b h = go (modelOf calls .staged) (agrees calls .staged) (whole calls .1)
+  writes calls place bytes b h = go (modelOf calls .staged) (mirrors calls .staged) (whole calls .1)
     where
-      g : Agrees 0 (after calls st) (modelOf calls)
-      g = agrees calls
+      g : Mirrors 0 (after calls st) (modelOf calls)
+      g = mirrors calls
 
       go : (o : Option Version) → Tracks (g .has) (after calls st .session) o → WholeStaged (ivfc4 n) o
           → (endingOf (write (after calls st .image) (after calls st .session) 0 place bytes .outcome) ≡ Accepted)
@@ -237,8 +240,8 @@ module _ (kind : Kind) (n : ℕ) (w : Blank kind n) where
       s : List ℕ
       s = after calls st .image
 
-      g : Agrees 0 (after calls st) (modelOf calls)
-      g = agrees calls
+      g : Mirrors 0 (after calls st) (modelOf calls)
+      g = mirrors calls
 
       d : Container
       d = g .has .container
@@ -258,7 +261,7 @@ module _ (kind : Kind) (n : ℕ) (w : Blank kind n) where
           ∙ by (lastValue 0 i (events calls st)) refl
         where
           by : (o : Option ℕ) → lastValue 0 i (events calls st) ≡ o → contentOf (committedView (landed .new .container) 0) s 4 i ≡ Option·getD o 0
-          by none e = landed .others i (omega (arith, ap (λ (l : Level). l .size) live4)) e ∙ w .zero i p
+          by none e = landed .others i (omega (arith, size4)) e ∙ w .zero i p
           by (some value) e = landed .written i value e
 
   pub takes : Takes kind n
@@ -266,8 +269,8 @@ module _ (kind : Kind) (n : ℕ) (w : Blank kind n) where
     reads = reads;
     counts = counts;
     starts = start;
-    begin = λ calls i. demand3 .progress .idle 0 st start calls i;
+    begin = λ calls i. demand3 .progress st (start .has .container) (start .has .opens) (start .idle) calls .idle i;
     write = writes;
-    commit = λ calls b. demand3 .progress .begun 0 st start calls b .0;
+    commit = λ calls b. demand3 .progress st (start .has .container) (start .has .opens) (start .idle) calls .begun b .0;
     back = back;
   }

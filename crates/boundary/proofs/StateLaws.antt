@@ -9,7 +9,7 @@ use native.Mathlib.Decide.{decLt}
 use lib.ListN.{length, getD, set, take, drop, replicate, length-replicate}
 use lib.Seq.{ext-getD, getD-set-same, getD-set-other, sets, length-sets}
 use Rattle.number.specs.Bytes.{bytes}
-use Rattle.number.specs.Fields.{le16, le32, le64}
+use Rattle.number.specs.Fields.{le16, le32, le64, fieldBytes}
 use Rattle.number.proofs.ListLaws.{length-part, getD-part, bytes-is, sets-in, sets-out, sets-whole}
 use Rattle.sha256.specs.Running.{longest}
 use Rattle.sha256.specs.declared.running.Running.{Running}
@@ -18,7 +18,6 @@ use Rattle.layout.specs.declared.Outcome.the-variants.{Accepted, Refused}
 use Rattle.layout.specs.declared.Refusal.{Refusal}
 use Rattle.signing.specs.declared.digests.Fed.{Fed}
 use Rattle.signing.specs.declared.digests.Finished.{Finished}
-use Rattle.signing.specs.Blocks.{fieldBytes}
 use Rattle.signing.specs.Digests.{Feeds, Finishes}
 use Rattle.signing.specs.Placing.{numberOf}
 use Rattle.signing.proofs.FieldLaws.{reads-back}

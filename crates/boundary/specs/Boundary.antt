@@ -29,8 +29,8 @@ use Rattle.steps.specs.Calls.{After}
 
 -- ---- an answer is one number of 64 bits
 
--- the low 8 bits are the number that the answer says; the bits above carry its value. A block's number or a count is below 2^30, so the
--- remainder changes nothing; it makes the rule total
+-- the low 8 bits are the number that the answer says; the bits above carry its value. By 01's limits on an image (this is not proved) a
+-- number of blocks, faults or names, an entry's number and a length are all below 2^56, so that the remainder changes nothing; it makes the rule total
 unfoldable pub packed : Said → ℕ
 packed said = said .number % 2 ^ 8 + 2 ^ 8 * (said .value % 2 ^ 56)
 

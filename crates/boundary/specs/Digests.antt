@@ -18,7 +18,8 @@ use Rattle.boundary.specs.Boundary.{packed}
 unfoldable pub runningOf : List ℕ → Running
 runningOf state = record { hash = bytes (λ (k : ℕ). le32 state (4 * k)) 0 8; rest = take 64 (drop 32 state); total = le64 state 96 }
 
--- a piece that is accepted leaves the bytes of the digest after it; one that is refused leaves them alone
+-- a piece that is accepted leaves the bytes of the digest after it (what stands in the block behind its waiting front is the program's choice, and has no
+-- meaning); one that is refused leaves them alone
 abbrev pub StateLeft : Outcome → Running → (before after : List ℕ) → Type 0
 StateLeft Accepted running before after = runningOf after ≡ running
 StateLeft (Refused r) running before after = after ≡ before

@@ -1,5 +1,5 @@
 -- The header that a commit stores, as the code makes it. Assumes nothing.
-use mathlib.Core.Path.{_≡_, _∙_}
+use mathlib.Core.Path.{_≡_, ap, _∙_}
 use mathlib.Core.List.{List}
 use mathlib.Core.Logic.{_⊎_, inl, inr}
 use Prim.Native.Nat.{ℕ, _+_, _-_, _≤_, _<_}
@@ -19,7 +19,7 @@ use Rattle.layout.specs.Guarantees.{Guarantees}
 use Rattle.signing.specs.declared.Signer.{Signer}
 use Rattle.signatures.specs.Signatures.{signature}
 use Rattle.layout.proofs.HeaderLaws.{header-length}
-use Rattle.commits.specs.Committing.{headerCommitted, committedImage, storedSigned, committedSigned}
+use Rattle.commits.specs.Committing.{storedHeader, storedSigned, headerCommitted, committedImage, committedSigned}
 
 pub flag-small : (image : List ℕ) (c : Container) → Guarantees image c → c .header .flag ≤ 1
 flag-small image c g = go (g .header .flag)
@@ -49,11 +49,17 @@ module _ (image : List ℕ) (c : Container) (g : Guarantees image c) (header : L
   unfolding headerCommitted
   header-made after e = rw (← flag, ← place, ← same, ← r, ← t, ← d) e
 
-pub image-made : (image header after : List ℕ) (c : Container) → header ≡ headerCommitted c image → after ≡ sets image 0x100 header → after ≡ committedImage c image
+pub image-made : (image header after : List ℕ) (c : Container) → header ≡ headerCommitted c image → after ≡ storedHeader image header → after ≡ committedImage c image
 unfolding committedImage
-image-made image header after c h e = rw (← h) e
+image-made image header after c h e = e ∙ ap (storedHeader image) h
 
-pub signed-made : (image key header code after : List ℕ) (c : Container) (signer : Signer) → header ≡ headerCommitted c image
-    → code ≡ signature key signer header → after ≡ storedSigned image code header → after ≡ committedSigned c image key signer
+pub signed-made : (image key header after : List ℕ) (c : Container) (signer : Signer) → header ≡ headerCommitted c image
+    → after ≡ storedSigned image key signer header → after ≡ committedSigned c image key signer
 unfolding committedSigned
-signed-made image key header code after c signer h s e = e ∙ rw (s, h)
+signed-made image key header after c signer h e = e ∙ ap (storedSigned image key signer) h
+
+-- a signature stored, then a header
+pub signed-stored : (image key header code mid after : List ℕ) (signer : Signer) → code ≡ signature key signer header → mid ≡ sets image 0 code
+    → after ≡ sets mid 0x100 header → after ≡ storedSigned image key signer header
+unfolding storedSigned storedHeader
+signed-stored image key header code mid after signer s m e = rw (← s, ← m) e

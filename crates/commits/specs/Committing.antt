@@ -1,4 +1,5 @@
--- What a commit, and a revert, stores: the header, whole, and with it the signature where it is signed (02, W5 and W13).
+-- What a commit, and a revert, stores: a header, whole, and with it its signature where it is signed (02, W5 and W13). A commit stores the next header, a
+-- revert the one before the last commit.
 use Prim.Native.Nat.{ℕ, _-_}
 use mathlib.Core.List.{List}
 use lib.ListN.{set}
@@ -11,6 +12,18 @@ use Rattle.layout.specs.Tables.{inactive}
 use Rattle.signing.specs.declared.Signer.{Signer}
 use Rattle.signatures.specs.Signatures.{signatureRange, signature}
 
+-- ---- what is stored of a header
+
+-- the header, whole; no other byte changes
+unfoldable pub storedHeader : List ℕ → (header : List ℕ) → List ℕ
+storedHeader image header = sets image (headerRange .offset) header
+
+-- and with it its signature: the unit is then the first 0x200 bytes, of which those between the two are left alone
+unfoldable pub storedSigned : List ℕ → (key : List ℕ) → Signer → (header : List ℕ) → List ℕ
+storedSigned image key signer header = storedHeader (sets image (signatureRange .offset) (signature key signer header)) header
+
+-- ---- a commit
+
 -- the flag is flipped and the table hash becomes that of the staged table
 unfoldable pub headerCommitted : Container → List ℕ → List ℕ
 headerCommitted c image =
@@ -19,24 +32,7 @@ headerCommitted c image =
 
 -- only those header bytes change
 unfoldable pub committedImage : Container → List ℕ → List ℕ
-committedImage c image = sets image (headerRange .offset) (headerCommitted c image)
+committedImage c image = storedHeader image (headerCommitted c image)
 
--- ---- signed: the unit is the first 0x200 bytes
-
--- a signature and a header stored; the bytes between them are left alone
-unfoldable pub storedSigned : List ℕ → (signature header : List ℕ) → List ℕ
-storedSigned image signature header = sets (sets image (signatureRange .offset) signature) (headerRange .offset) header
-
--- the signature is that of the new header
 unfoldable pub committedSigned : Container → List ℕ → (key : List ℕ) → Signer → List ℕ
-committedSigned c image key signer = storedSigned image (signature key signer (headerCommitted c image)) (headerCommitted c image)
-
--- ---- a revert (02: back) restores the header before the last commit
-
--- no other byte changes
-unfoldable pub revertedImage : List ℕ → (former : List ℕ) → List ℕ
-revertedImage image former = sets image (headerRange .offset) former
-
--- signed, with the signature of that header
-unfoldable pub revertedSigned : List ℕ → (former key : List ℕ) → Signer → List ℕ
-revertedSigned image former key signer = storedSigned image (signature key signer former) former
+committedSigned c image key signer = storedSigned image key signer (headerCommitted c image)

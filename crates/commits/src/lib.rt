@@ -13,10 +13,9 @@ use signing::Signer;
 ghost use mathlib.Core.Path.{_≡_};
 ghost use Prim.Native.Nat.{_≤_};
 ghost use lib.ListN.{length};
-ghost use lib.Seq.{sets};
-ghost use Rattle.layout.specs.Headers.{headerRange, headerBytes};
+ghost use Rattle.layout.specs.Headers.{headerBytes};
 ghost use Rattle.layout.specs.Guarantees.{Guarantees};
-ghost use Rattle.commits.specs.Committing.{headerCommitted, committedImage, storedSigned, committedSigned, revertedImage, revertedSigned};
+ghost use Rattle.commits.specs.Committing.{storedHeader, storedSigned, headerCommitted, committedImage, committedSigned};
 
 // The former header with the flag flipped and the hash of the staged table.
 fn next_header(former: [u8; 256], image: &[u8], c: Container) -> [u8; 256]
@@ -33,11 +32,21 @@ fn next_header(former: [u8; 256], image: &[u8], c: Container) -> [u8; 256]
     header
 }
 
-// The one store of a commit, and of a revert: the header whole.
-fn store_header(image: &mut [u8], header: [u8; 256])
+// The one store of a commit, and of a revert: a header, whole.
+pub fn store_header(image: &mut [u8], header: [u8; 256])
     requires { ⌜ 0x200 ≤ length (now image) ⌝ }
-    ensures { λ _. ⌜ now (image .exit) ≡ sets (now (image .entry)) (headerRange .offset) header ⌝ }
+    ensures { λ _. ⌜ now (image .exit) ≡ storedHeader (now (image .entry)) header ⌝ }
 {
+    copy_into(image, HEADER, &header);
+}
+
+// The one store of a signed commit, and of a signed revert: a header's signature, and the header, whole. The bytes between them are left alone.
+pub fn store_signed(image: &mut [u8], header: [u8; 256], key: [u8; 16], signer: Signer)
+    requires { ⌜ 0x200 ≤ length (now image) ⌝ }
+    ensures { λ _. ⌜ now (image .exit) ≡ storedSigned (now (image .entry)) key signer header ⌝ }
+{
+    let signature = sign(key, signer, &header);
+    copy_into(image, 0, &signature);
     copy_into(image, HEADER, &header);
 }
 
@@ -51,15 +60,6 @@ pub fn switch_tables(image: &mut [u8], c: Container)
     store_header(image, next);
 }
 
-// The one store of a signed commit, and of a signed revert: the signature, and the header whole. The bytes between them are left alone.
-fn store_signed(image: &mut [u8], signature: [u8; 16], next: [u8; 256])
-    requires { ⌜ 0x200 ≤ length (now image) ⌝ }
-    ensures { λ _. ⌜ now (image .exit) ≡ storedSigned (now (image .entry)) signature next ⌝ }
-{
-    copy_into(image, 0, &signature);
-    copy_into(image, HEADER, &next);
-}
-
 // The same with the signature of the new header.
 pub fn switch_signed(image: &mut [u8], c: Container, key: [u8; 16], signer: Signer)
     requires { ⌜ Guarantees (now image) c ⌝ }
@@ -67,23 +67,5 @@ pub fn switch_signed(image: &mut [u8], c: Container, key: [u8; 16], signer: Sign
 {
     let former = header_of(image);
     let next = next_header(former, image, c);
-    let signature = sign(key, signer, &next);
-    store_signed(image, signature, next);
-}
-
-// Restores the header before the last commit.
-pub fn restore(image: &mut [u8], former: [u8; 256])
-    requires { ⌜ 0x200 ≤ length (now image) ⌝ }
-    ensures { λ _. ⌜ now (image .exit) ≡ revertedImage (now (image .entry)) former ⌝ }
-{
-    store_header(image, former);
-}
-
-// The same with the signature of that header.
-pub fn restore_signed(image: &mut [u8], former: [u8; 256], key: [u8; 16], signer: Signer)
-    requires { ⌜ 0x200 ≤ length (now image) ⌝ }
-    ensures { λ _. ⌜ now (image .exit) ≡ revertedSigned (now (image .entry)) former key signer ⌝ }
-{
-    let signature = sign(key, signer, &former);
-    store_signed(image, signature, former);
+    store_signed(image, next, key, signer);
 }

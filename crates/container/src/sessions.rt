@@ -1,6 +1,7 @@
-// The calls on a session. Whatever session value is handed in, only commit changes a byte that the committed view rests on.
-use commits::restore;
-use commits::restore_signed;
+// The calls on a session. Whatever session value is handed in, only commit and revert change a byte that the committed view rests on, and a write
+// where level 4 is external, which is written in place.
+use commits::store_header;
+use commits::store_signed;
 use commits::switch_signed;
 use commits::switch_tables;
 use layout::Opened;
@@ -9,6 +10,7 @@ use layout::Refusal;
 use layout::headers::header_of;
 use layout::opening::open;
 use signing::Signer;
+use signing::answers::judge_header;
 use signing::answers::judge_signer;
 use steps::Ending;
 use steps::Session;
@@ -59,7 +61,8 @@ pub fn begin(image: &mut [u8], session: Session) -> Step
     }
 }
 
-// Writes bytes to a partition's staged level 4 from a place on. A write that would hold a digest of all zeros ends the session with 17.
+// Writes bytes to a partition's staged level 4 from a place on; an external one is written in place. A write that would hold a digest of all zeros ends
+// the session with 17.
 pub fn write(image: &mut [u8], session: Session, partition: u64, place: u64, bytes: &[u8]) -> Step
     ensures { λ r. ⌜ Stepped r (now (image .exit)) (calls.write (now (image .entry)) session partition place (now (bytes .entry))) ⌝ }
 {
@@ -129,14 +132,14 @@ pub fn revert(image: &mut [u8], session: Session) -> Step
         return refused(session, refusal_of(answer));
     };
     let former = session.header;
-    restore(image, former);
+    store_header(image, former);
     Step {
         outcome: Ending::Accepted,
         session: new(),
     }
 }
 
-// The same with a signature: that of the restored header, under a key, is stored with it.
+// The same with a signature: that of the restored header, under a key, is stored with it. The signer's kind is held to that header's.
 pub fn revert_signed(image: &mut [u8], session: Session, key: [u8; 16], signer: Signer) -> Step
     ensures { λ r. ⌜ Stepped r (now (image .exit)) (calls.revertSigned (now (image .entry)) session key signer) ⌝ }
 {
@@ -145,10 +148,10 @@ pub fn revert_signed(image: &mut [u8], session: Session, key: [u8; 16], signer: 
         return refused(session, refusal_of(answer));
     };
     let restored = session.header;
-    match judge_signer(image, signer) {
+    match judge_header(restored, signer) {
         Outcome::Refused(refusal) => refused(session, refusal),
         Outcome::Accepted => {
-            restore_signed(image, restored, key, signer);
+            store_signed(image, restored, key, signer);
             Step {
                 outcome: Ending::Accepted,
                 session: new(),

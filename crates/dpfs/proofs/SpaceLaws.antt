@@ -19,7 +19,7 @@ use Rattle.dpfs.specs.Staging.{begun, put}
 use Rattle.dpfs.specs.Rules.{WellPlaced, Aside, Beyond, BeyondAll, SpaceRules, Among}
 use Rattle.dpfs.proofs.PutLaws.{put-keeps}
 use Rattle.dpfs.proofs.BeginLaws.{begun-keeps}
-use Rattle.dpfs.proofs.SpareLaws.{Spares, spares-or, free-spares, spared-content, spared-free, Avoids, avoids-spares, avoided-content, aside-swap, aside-avoids}
+use Rattle.dpfs.proofs.SpareLaws.{Spares, spares-or, free-spares, spared-free, Avoids, avoids-spares, avoided-content, aside-swap, aside-avoids}
 
 -- ---- a tree of the space
 
@@ -98,22 +98,19 @@ module _ (space : Space) (tree : Tree) (image : List ℕ) (r : SpaceRules space 
   pub space-begun : Keeps (Free space image) image (begun tree image)
   space-begun = tree-keeps space tree m image (begun tree image) (begun-keeps tree image (among-placed space (length image) r tree m))
 
--- ---- the frame: any image that agrees on the bytes that are not free
+-- ---- the frame: any image that differs in bytes that spare the trees has the same free bytes
 
-module _ (space : Space) (n : ℕ) (r : SpaceRules space n) (image after : List ℕ) (k : Keeps (Free space image) image after) where
-  module _ (tree : Tree) (m : Among tree space) where
-    pub kept-content : (z : ℕ) → z < tree .level3 .size → content tree after (tree .live) z ≡ content tree image (tree .live) z
-    kept-content = spared-content tree n (among-placed space n r tree m) (Free space image) image after (space-spares space n r tree m image) k
-
-  pub kept-free : (i : ℕ) → Free space after i ↔ Free space image i
+module _ (space : Space) (n : ℕ) (r : SpaceRules space n) (F : ℕ → Type 0) (image after : List ℕ) (k : Keeps F image after)
+    (a : Spares F (space .a) image) (b : space .two ≡ true → Spares F (space .b) image) where
+  pub spared-space : (i : ℕ) → Free space after i ↔ Free space image i
   unfolding Free
-  kept-free i = (back, on)
+  spared-space i = (back, on)
     where
       free-a : FreeIn (space .a) after i ↔ FreeIn (space .a) image i
-      free-a = spared-free (space .a) n (r .a) (Free space image) image after (spares-a space n r image) k i
+      free-a = spared-free (space .a) n (r .a) F image after a k i
 
       free-b : space .two ≡ true → FreeIn (space .b) after i ↔ FreeIn (space .b) image i
-      free-b e = spared-free (space .b) n (r .b e) (Free space image) image after (spares-b space n r image e) k i
+      free-b e = spared-free (space .b) n (r .b e) F image after (b e) k i
 
       back : Free space after i → Free space image i
       back (inl f) = inl f
@@ -124,6 +121,11 @@ module _ (space : Space) (n : ℕ) (r : SpaceRules space n) (image after : List 
       on (inl f) = inl f
       on (inr (inl f)) = inr (inl (free-a .1 f))
       on (inr (inr (e, f))) = inr (inr (e, free-b e .1 f))
+
+-- so has one that differs in free bytes alone
+pub kept-free : (space : Space) (n : ℕ) → SpaceRules space n → (image after : List ℕ) → Keeps (Free space image) image after → (i : ℕ)
+    → Free space after i ↔ Free space image i
+kept-free space n r image after k = spared-space space n r (Free space image) image after k (spares-a space n r image) (spares-b space n r image)
 
 -- one change after another
 pub space-trans : (space : Space) (n : ℕ) → SpaceRules space n → (image next after : List ℕ) → Keeps (Free space image) image next → Keeps (Free space next) next after

@@ -1,5 +1,5 @@
--- The bytes that a session may store to before its commit: the inactive table, and for each partition the other half of level 1 and the
--- copies of level 2 and 3 blocks that the live selection does not name.
+-- The bytes that a session may store to before its commit, beside an external level 4: the inactive table, and for each partition the other half of
+-- level 1 and the copies of level 2 and 3 blocks that the live selection does not name.
 use mathlib.Core.Path.{_≡_}
 use mathlib.Core.List.{List}
 use mathlib.Core.Bool.{Bool, true, not}

@@ -7,13 +7,14 @@ use Prim.Native.Nat.{ℕ, _+_, _-_, _*_, _%_, _≤_, _<_, min}
 use Rattle.number.specs.declared.Range.{Range}
 use Rattle.number.specs.declared.Level.{Level}
 use Rattle.number.specs.Blocks.{blockSize, blocks, blockOf}
+use Rattle.number.specs.Ranges.{Apart, levelRange, twice}
 use Rattle.dpfs.specs.declared.Tree.{Tree}
 use Rattle.dpfs.specs.declared.Space.{Space}
 use Rattle.dpfs.specs.Tree.{select3}
 
 -- the pairs of halves of two levels do not overlap
 abbrev pub Disjoint : Level → Level → Type 0
-Disjoint l m = (l .offset + 2 * l .size ≤ m .offset) ⊎ (m .offset + 2 * m .size ≤ l .offset)
+Disjoint l m = Apart (twice (levelRange l)) (twice (levelRange m))
 
 -- 01's rules on the three levels of a partition's DPFS, in an image of n bytes
 pub record WellPlaced (tree : Tree) (n : ℕ) : Type 0 where
@@ -46,7 +47,7 @@ pub record Aside (a b : Tree) : Type 0 where
 
 -- a level's pair does not overlap a range
 abbrev pub Beyond : Range → Level → Type 0
-Beyond r l = (r .offset + r .size ≤ l .offset) ⊎ (l .offset + 2 * l .size ≤ r .offset)
+Beyond r l = Apart r (twice (levelRange l))
 
 pub record BeyondAll (r : Range) (tree : Tree) : Type 0 where
   pub level1 : Beyond r (tree .level1)

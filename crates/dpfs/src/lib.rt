@@ -14,7 +14,8 @@ pub struct Tree {
     pub live: bool,
 }
 
-// What a session may store to lies in the inactive table and in the trees of partition A and, where there are two, of B.
+// What a session may store to, beside an external level 4: free places of the inactive table and of the trees of partition A and, where there are two,
+// of B.
 pub struct Space {
     pub table: Range,
     pub a: Tree,

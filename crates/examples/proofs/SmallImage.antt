@@ -17,7 +17,7 @@ use Rattle.layout.specs.declared.Second.the-variants.{Missing}
 use Rattle.layout.specs.declared.Opened.the-variants as opening
 use Rattle.layout.specs.Every.{onto, every}
 use Rattle.layout.specs.Magic.{opensWith, diffMagic, difiMagic, ivfcMagic, dpfsMagic}
-use Rattle.layout.specs.Headers.{headerBytes, diffHeader, selectionAllowed, geometryAllowed, judgedFields, judgedHeader}
+use Rattle.layout.specs.Headers.{headerBytes, diffHeader, selectionAllowed, geometryAllowed, judgedFields, judgedHeader, kindIn}
 use Rattle.layout.specs.Tables.{active, tableMatches}
 use Rattle.layout.specs.Descriptors.{difiFields, ivfcFields, dpfsFields, partitionFields, difiAllowed, ivfcAllowed, dpfsAllowed, formAllowed, piecesPlaced, levelsPlaced, enoughBits, enoughEntries, allEnough, placesAllowed, judgedPartition}
 use Rattle.limits.specs.Limits.{sizeAllowed, levelAllowed, lengthAllowed}
@@ -106,7 +106,7 @@ unfolding smallImage part table header tableHash master level1 level2 level3 act
 table-is = refl
 
 header-good : judgedHeader (length smallImage) header ≡ GoodHeader (diffHeader header)
-unfolding smallImage table header tableHash master level1 level2 level3 judgedHeader judgedFields selectionAllowed geometryAllowed placed clear fits apart inside opensWith part sameBytes diffHeader le64 le32 le16
+unfolding smallImage table header tableHash master level1 level2 level3 judgedHeader kindIn judgedFields selectionAllowed geometryAllowed placed clear fits apart inside opensWith part sameBytes diffHeader le64 le32 le16
 header-good = refl
 
 first-good : judgedPartition 272 (part table (record { offset = 0; size = 0x12C })) ≡ GoodPartition (partitionFields table)

@@ -27,7 +27,7 @@ use Rattle.steps.specs.Calls.{verifiedIn, isVerified, countVerifiedIn, countVer
 use Rattle.faults.specs.declared.Fault.{Fault}
 use Rattle.faults.specs.Faults.{blocksFrom, levelsFrom, partitionsFrom, allBlocks, isFault, kept, faultsOf, faultsIn, faults}
 use Rattle.faults.specs.Marking.{blocksIn}
-use Rattle.faults.specs.Laws.{Listed, Before, All, Rising, ofLevel, FaultLaws}
+use Rattle.faults.specs.Laws.{Listed, Before, All, Rising, IsBlock, ofLevel, FaultLaws}
 use Rattle.faults.proofs.ListLaws.{at, kept-yes, kept-no}
 use Rattle.faults.proofs.LevelLaws.{all-append, all-kept, all-blocks, all-levels, all-partitions, level-faults, count-level}
 
@@ -107,6 +107,12 @@ kept-true P f (g ∷ l) x = go (P g) refl x (λ y. kept-true P f l y)
     go true y (inr z) later = later z
     go false y z later = later z
 
+all-listed : (R : Fault → Type 0) (f : Fault) (l : List Fault) → All R l → Listed f l → R f
+unfolding Listed All
+all-listed R f [] x y = absurd y
+all-listed R f (g ∷ l) x (inl e) = subst R (sym e) (x .0)
+all-listed R f (g ∷ l) x (inr y) = all-listed R f l (x .1) y
+
 module _ (c : Container) where
   listed-blocks : (q i k b n : ℕ) → b ≤ k → k < b + n → Listed (at q i k) (blocksFrom q i b n)
   unfolding Listed blocksFrom
@@ -150,13 +156,20 @@ module _ (image : List ℕ) (c : Container) (o : opened image ≡ opening.Valid 
   unfolding faults
   faults-are = ap (faultsIn image) o
 
-  listed-is : (q i b : ℕ) → q < partitions c → 1 ≤ i → i ≤ 4 → b < blocksIn c q i → Listed (at q i b) (faults image) ↔ (verified (committedView c q) image i b ≡ false)
+  pub listed-is : (f : Fault) → Listed f (faults image) ↔ (IsBlock c f × (verified (committedView c (f .partition)) image (f .level) (f .block) ≡ false))
   unfolding faultsOf
-  listed-is q i b h f t k = (
-    λ x. not-true (verified (committedView c q) image i b) (kept-true (isFault c image) (at q i b) (allBlocks c) (subst (Listed (at q i b)) faults-are x)),
-    λ e. subst (Listed (at q i b)) (sym faults-are)
-        (listed-kept (isFault c image) (at q i b) (allBlocks c) (ap not e) (listed-partitions c q i b 0 (partitions c) (omega arith) (omega (arith, h)) f t k)),
+  listed-is f = (
+    λ x. (
+      all-listed (IsBlock c) f (faultsOf c image) (all-kept (IsBlock c) (isFault c image) (allBlocks c) blocks-all) (subst (Listed f) faults-are x),
+      not-true (verified (committedView c (f .partition)) image (f .level) (f .block)) (kept-true (isFault c image) f (allBlocks c) (subst (Listed f) faults-are x)),
+    ),
+    λ ((h, b, t, k), e). subst (Listed f) (sym faults-are)
+        (listed-kept (isFault c image) f (allBlocks c) (ap not e)
+        (listed-partitions c (f .partition) (f .level) (f .block) 0 (partitions c) (omega arith) (omega (arith, h)) b t k)),
   )
+    where
+      blocks-all : All (IsBlock c) (allBlocks c)
+      blocks-all = all-partitions c (IsBlock c) 0 (partitions c) (λ p j k l m b t x. (omega (arith, m), b, t, x))
 
   -- what `verified` says
   verdict-is : (q b : ℕ) → q < partitions c → b < blocksIn c q 4 → isVerified image q b ≡ said (verified (committedView c q) image 4 b)
@@ -177,9 +190,9 @@ module _ (image : List ℕ) (c : Container) (o : opened image ≡ opening.Valid 
 
   question-is : (q b : ℕ) → q < partitions c → b < blocksIn c q 4 → Listed (at q 4 b) (faults image) ↔ (isVerified image q b ≡ No)
   question-is q b h k =
-      let l : Listed (at q 4 b) (faults image) ↔ (verified (committedView c q) image 4 b ≡ false) = listed-is q 4 b h (omega arith) (omega arith) k in
+      let l : Listed (at q 4 b) (faults image) ↔ (IsBlock c (at q 4 b) × (verified (committedView c q) image 4 b ≡ false)) = listed-is (at q 4 b) in
       let s : (said (verified (committedView c q) image 4 b) ≡ No) ↔ (verified (committedView c q) image 4 b ≡ false) = says-no (verified (committedView c q) image 4 b) in
-      (λ x. verdict-is q b h k ∙ s .1 (l .0 x), λ e. l .1 (s .0 (sym (verdict-is q b h k) ∙ e)))
+      (λ x. verdict-is q b h k ∙ s .1 (l .0 x .1), λ e. l .1 ((h, omega arith, omega arith, k), s .0 (sym (verdict-is q b h k) ∙ e)))
 
   count-is : (q n : ℕ) → q < partitions c → countVerified image q ≡ count.Blocks n → n ≡ countOf (verified (committedView c q) image 4) (blocksIn c q 4)
   unfolding countVerified countIn levelOf
@@ -207,7 +220,7 @@ pub laws-hold : FaultLaws
 unfolding faults
 laws-hold = record {
   rising = λ image. rising-in image (opened image);
-  listed = λ image c o q i b h f t k. listed-is image c o q i b h f t k;
+  listed = listed-is;
   questions = λ image c o q b h k. question-is image c o q b h k;
   counts = λ image c o q n h e. counts-are image c o q n h e;
 }

@@ -6,7 +6,7 @@ mod UnderLaws
 mod NumberLaws
 mod RoomLaws
 pub mod MarkedLaws
-mod LawsHold
+pub mod LawsHold
 mod TurnLaws
 mod RowLaws
 mod Lent

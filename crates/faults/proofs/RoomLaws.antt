@@ -1,16 +1,16 @@
 -- There is a mark for each block of an image that opens. Each block has an entry in the level above, and the hash levels lie apart in DPFS level 3, of
 -- which the image has two halves. Assumes nothing.
 use mathlib.Core.Path.{_≡_, refl, sym, ap}
-use mathlib.Core.Bool.{true, _&&_}
+use mathlib.Core.Bool.{true}
 use mathlib.Core.Logic.{_⊎_, inl, inr}
 use mathlib.Core.List.{List}
-use Prim.Native.Nat.{ℕ, _+_, _*_, _%_, _≤_, _<_}
+use Prim.Native.Nat.{ℕ, _+_, _*_, _≤_, _<_}
 use native.Mathlib.Omega.{arith}
-use lib.Dec.{leb, eqb}
+use lib.Dec.{leb}
 use lib.ListN.{length}
 use borrow.Author.Tests.{leb-true, eq-eqb}
-use Rattle.number.proofs.Tests.{and-left, and-right}
-use Rattle.limits.specs.Limits.{masterAllowed}
+use Rattle.number.proofs.Tests.{and-right}
+use Rattle.limits.specs.Limits.{masterAllowed, sizeAllowed}
 use Rattle.layout.specs.declared.Container.{Container}
 use Rattle.layout.specs.declared.Opened.{Opened}
 use Rattle.layout.specs.declared.Opened.the-variants as opening
@@ -53,7 +53,7 @@ view-few view n rules apart =
     )
 
 master-few : (size : ℕ) → masterAllowed size ≡ true → size ≤ 0x800
-master-few size e = leb-true _ _ (and-right (leb 32 size) (leb size (64 * 32)) (and-left (leb 32 size && leb size (64 * 32)) (eqb (size % 32) 0) e))
+master-few size e = leb-true _ _ (and-right (sizeAllowed 32 size) (leb size (64 * 32)) e)
 
 module _ (image : List ℕ) (c : Container) (g : Guarantees image c) where
   tree-is : (q : ℕ) → committedView c q .tree .level3 .size ≡ treeOf c q .level3 .size

@@ -39,6 +39,11 @@ unfoldable pub Rising : List Fault → Type 0
 Rising [] = Unit {0}
 Rising (f ∷ rest) = All (Before f) rest × Rising rest
 
+-- f names a block of levels 1 to 4 of a partition that there is
+abbrev pub IsBlock : Container → Fault → Type 0
+IsBlock c f =
+    (f .partition < partitions c) × (1 ≤ f .level) × (f .level ≤ 4) × (f .block < blocks (levelOf (committedView c (f .partition)) (f .level)))
+
 -- a block of level i of partition q
 abbrev pub ofLevel : (q i : ℕ) → Fault → Bool
 ofLevel q i f = eqb (f .partition) q && eqb (f .level) i
@@ -46,10 +51,9 @@ ofLevel q i f = eqb (f .partition) q && eqb (f .level) i
 pub record FaultLaws : Type 0 where
   -- each fault is there once, in order
   pub rising : (image : List ℕ) → Rising (faults image)
-  -- a block of levels 1 to 4 of a partition is there exactly if it is not verified
-  pub listed : (image : List ℕ) (c : Container) → opened image ≡ Valid c → (q i b : ℕ) → q < partitions c → 1 ≤ i → i ≤ 4
-      → b < blocks (levelOf (committedView c q) i)
-      → Listed (record { partition = q; level = i; block = b }) (faults image) ↔ (verified (committedView c q) image i b ≡ false)
+  -- every such block that is not verified is there, and no other
+  pub listed : (image : List ℕ) (c : Container) → opened image ≡ Valid c → (f : Fault)
+      → Listed f (faults image) ↔ (IsBlock c f × (verified (committedView c (f .partition)) image (f .level) (f .block) ≡ false))
   -- of level 4: exactly if `verified` says no
   pub questions : (image : List ℕ) (c : Container) → opened image ≡ Valid c → (q b : ℕ) → q < partitions c
       → b < blocks (levelOf (committedView c q) 4)

@@ -4,10 +4,10 @@ ghost use Rattle.faults.specs.Laws.{FaultLaws};
 // The last of the levels.
 pub const LAST: u64 = 4;
 
-pub mod judging;
+mod judging;
 pub mod listing;
-pub mod marking;
-pub mod searching;
+mod marking;
+mod searching;
 
 // A block that is not verified: its partition (0 is A and 1 is B), its level and its number.
 #[repr(C)]

@@ -10,7 +10,7 @@ use lib.ListN.{length, getD}
 use lib.Dec.{eqb}
 use borrow.Author.Tests.{eq-eqb}
 use Rattle.number.specs.Frame.{Keeps}
-use Rattle.number.proofs.FrameLaws.{keeps-trans}
+use Rattle.number.proofs.FrameLaws.{keeps-trans, keeps-more}
 use Rattle.layout.specs.declared.Container.{Container}
 use Rattle.layout.specs.declared.Opened.the-variants as opening
 use Rattle.layout.specs.Tables.{active, inactive}
@@ -18,7 +18,7 @@ use Rattle.layout.specs.Opening.{opened}
 use Rattle.layout.specs.Guarantees.{Guarantees}
 use Rattle.layout.proofs.GuaranteeLaws.{guarantees}
 use Rattle.dpfs.specs.Tree.{content}
-use Rattle.dpfs.specs.Free.{FreeCopy, FreeIn, InRange}
+use Rattle.dpfs.specs.Free.{FreeCopy, FreeIn, InRange, Free}
 use Rattle.dpfs.specs.Rules.{WellPlaced}
 use Rattle.dpfs.specs.Staging.{begun}
 use Rattle.dpfs.proofs.SpareLaws.{Avoids}
@@ -27,13 +27,17 @@ use Rattle.dpfs.proofs.BeginLaws.{begun-keeps, begun-staged}
 use Rattle.views.specs.Places.{partitions, slotOf, partitionOf, treeOf, masterIn, viewIn, committedView, stagedView, spaceOf}
 use Rattle.views.proofs.PlaceLaws.{first-there, second-there, third-missing, active-table, inactive-table, tree-rules, staged-rules, space-rules, tree-among}
 use Rattle.steps.specs.Sessions.{inSomeMaster, stagedTable, tableBegun, begunImage, tableStaged}
-use Rattle.history.specs.Former.{Left}
+use Rattle.history.proofs.Agreeing.{LeftBut, None}
 use Rattle.history.proofs.CallLaws.{BeginLaws}
 use Rattle.history.proofs.Seen.{SameSeen, same-version}
-use Rattle.history.proofs.Frames.{outside-stays, staged-stays}
+use Rattle.history.proofs.Outers.{outside-stays, staged-stays}
 use Rattle.history.proofs.Tables.{byte-of, place-of, two-there, trees-apart, off-selectors, staged-other, in-table}
 use Rattle.steps.proofs.BelowLaws.{below-all}
 use Rattle.steps.proofs.BeginLaws.{table-only, table-byte}
+
+-- it differs in free bytes only
+abbrev Left : Container → (image left : List ℕ) → Type 0
+Left c image left = Keeps (Free (spaceOf c) image) image left
 
 module _ (image : List ℕ) (c : Container) (g : Guarantees image c) where
   -- ---- the table
@@ -140,6 +144,9 @@ module _ (image : List ℕ) (c : Container) (g : Guarantees image c) where
 
   -- ---- the laws
 
+  left : (after : List ℕ) → Ready after → LeftBut None c image after
+  left after r = keeps-more (λ i f. inl f) (r .stores)
+
   begin-table : (after : List ℕ) → Ready after → tableStaged c after ≡ true
   unfolding tableStaged
   begin-table after r =
@@ -147,7 +154,7 @@ module _ (image : List ℕ) (c : Container) (g : Guarantees image c) where
       (λ (i : ℕ). inSomeMaster c i || eqb (getD after (inactive (c .header) .offset + i) 0) (getD (stagedTable c after) i 0))
       (λ i h. ap (λ (t : Bool). inSomeMaster c i || t)
       (eq-eqb (getD after (inactive (c .header) .offset + i) 0) (getD (stagedTable c after) i 0)
-      (r .table i h ∙ ap (λ (x : List ℕ). getD x i 0) (sym (staged-stays image after c g (r .stores)))))
+      (r .table i h ∙ ap (λ (x : List ℕ). getD x i 0) (sym (staged-stays image after c g None (λ i. absurd) (left after r)))))
       ∙ or-true (inSomeMaster c i))
 
   -- the staged master hash is a copy of the committed one
@@ -182,7 +189,7 @@ module _ (image : List ℕ) (c : Container) (g : Guarantees image c) where
     external = refl;
     master = master-copied after r q h;
     inner = r .staged q h;
-    outer = λ e y l. outside-stays image after c g (r .stores) q h e y l;
+    outer = λ e y l. outside-stays image after c g None (λ i. absurd) (left after r) q h y e l (λ n. n);
   }
 
 pub begins : (image : List ℕ) (c : Container) → opened image ≡ opening.Valid c → BeginLaws c image
@@ -190,7 +197,7 @@ begins image c o =
     let g = guarantees image c o in
     let r = ready image c g in
     record {
-      stores = r .stores;
+      stores = left image c g (begunImage c image) r;
       table = begin-table image c g (begunImage c image) r;
       version = λ q h. same-version (stagedView c q) (committedView c q) (begunImage c image) image (length image) (staged-rules image c g q h)
           (seen image c g (begunImage c image) r q h);

@@ -5,13 +5,13 @@ use mathlib.Core.List.{List}
 use Prim.Native.Nat.{ℕ, _+_, _≤_, _<_}
 use native.Mathlib.Omega.{arith}
 use lib.ListN.{length}
-use lib.Dec.{leb, ltb}
+use lib.Dec.{eqb, leb, ltb}
 use borrow.Author.Tests.{leb-true, ltb-true}
 use Rattle.layout.specs.declared.Container.{Container}
 use Rattle.layout.specs.declared.Opened.{Opened}
 use Rattle.layout.specs.declared.Opened.the-variants as opening
 use Rattle.layout.specs.declared.Refusal.{Refusal}
-use Rattle.layout.specs.declared.Refusal.the-variants.{NoPartition, OutOfRange, SessionState, Stale}
+use Rattle.layout.specs.declared.Refusal.the-variants.{NoPartition, OutOfRange, SessionState}
 use Rattle.layout.specs.Headers.{headerBytes}
 use Rattle.layout.specs.Opening.{opened}
 use Rattle.ivfc.specs.declared.View.{View}
@@ -19,30 +19,24 @@ use Rattle.update.specs.Staged.{writtenTo, holdsZero}
 use Rattle.views.specs.Places.{partitions, stagedView}
 use Rattle.layout.specs.declared.Outcome.{Outcome}
 use Rattle.layout.specs.declared.Outcome.the-variants as outcome
-use Rattle.steps.specs.declared.Verdict.{Verdict}
-use Rattle.steps.specs.declared.Verdict.the-variants as verdict
-use Rattle.steps.specs.declared.Count.{Count}
-use Rattle.steps.specs.declared.Count.the-variants as count
-use Rattle.save.specs.declared.Listed.{Listed}
-use Rattle.save.specs.declared.Listed.the-variants as listed
-use Rattle.save.specs.declared.Sought.{Sought}
-use Rattle.save.specs.declared.Sought.the-variants as sought
+use Rattle.save.specs.Answers.{listedSays, soughtSays}
 use Rattle.save.specs.Calls.{listNames, findFile}
-use Rattle.faults.specs.declared.Fault.{Fault}
-use Rattle.faults.specs.Faults.{faults, countFaults, rowAfter}
+use Rattle.faults.specs.Faults.{countFaults}
+use Rattle.layout.specs.Refusals.{Said, openedSays, outcomeSays}
 use Rattle.steps.specs.declared.Ending.the-variants as ending
+use Rattle.steps.specs.Answers.{verdictSays, countSays}
 use Rattle.steps.specs.declared.Session.{Session}
 use Rattle.steps.specs.Reading.{refuseOutside}
 use Rattle.steps.specs.Sessions.{idle, begunWith, begunImage, current, writeOutcome}
 use Rattle.signing.specs.declared.Signer.{Signer}
-use Rattle.signing.specs.declared.Built.{Built}
-use Rattle.signing.specs.declared.Built.the-variants as built
-use Rattle.signing.specs.Calls.{Answer, Signs, signed, builtAs, outcomeOf, blockLeft}
+use Rattle.signing.specs.Calls.{Answer, Signs, signed, builtAs, builtSays, outcomeOf}
 use Rattle.signing.specs.Calls as signing
-use Rattle.commits.specs.Committing.{committedImage, committedSigned}
-use Rattle.steps.specs.Calls.{After, unchanged, done, finished, leaving, readCommitted, readStaged, isVerified, countVerified, begin, beginIn, inSession, writeOn, write, commitOn, commit, commitBy, commitSigned, abandon, Abandoned, landed}
-use Rattle.history.specs.Model.{Form, Plain, Signed, Query, Open, ReadCommitted, ReadStaged, IsVerified, CountVerified, ListFaults, SigningBlock, SigningDigest, ListNames, FindFile, Call, Ask, Begin, Write, Commit, Abandon, Opening, Judging, Counting, Listing, Building, Finding, Ruling, Accepted, Refused, Dropped, rulingOf, endingOf, namesRuling, ruling}
+use Rattle.commits.specs.Committing.{headerCommitted, committedImage, committedSigned}
+use Rattle.steps.specs.Calls.{After, unchanged, done, finished, leaving, readCommitted, readStaged, isVerified, countVerified, whileIdle, whileBegun, entered, goesOn, beginOn, begin, writeOn, write, commitOn, commit, commitBy, commitSigned, abandon, Abandoned, landed}
+use Rattle.steps.proofs.EnterLaws.{idle-is, entered-is}
+use Rattle.history.specs.Model.{Form, Plain, Signed, Query, Open, ReadCommitted, ReadStaged, IsVerified, CountVerified, ListFaults, SigningBlock, SigningDigest, ListNames, FindFile, Call, Ask, Begin, Write, Commit, Abandon, Ruling, Accepted, Refused, Dropped, ruledBy, endingOf, ruling}
 use Rattle.history.specs.Run.{State, openedAs, committedAs, reply, perform, ruled, next}
+use Rattle.history.proofs.Stored.{storedAs}
 
 pub not-dropped : {B : Type 0} {r : Ruling} → r ≡ Dropped → r ≡ Refused → B
 not-dropped a r = let z : _≡_ {A = ℕ} 0 1 = cc in absurd (omega arith)
@@ -93,17 +87,10 @@ kept-leaving : (st : State) (o : Outcome) (next : After) → Kept st next → Ke
 kept-leaving st outcome.Accepted next k = k
 kept-leaving st (outcome.Refused r) next k = λ e. refl
 
-kept-begin : (st : State) (o : Opened) → Kept st (beginIn (st .image) (st .session) o)
-kept-begin st (opening.Refused r) = λ e. refl
-kept-begin st (opening.Valid c) =
-    kept-cond (st .session .begun) st (unchanged (st .image) (st .session) SessionState)
-    (done (begunImage c (st .image)) (begunWith (headerBytes (st .image)))) (λ e. refl) (kept-done st _ _)
-
--- the calls of a begun session
-kept-session : (st : State) (next : Container → After) → ((c : Container) → Kept st (next c)) → (o : Opened) → Kept st (inSession (st .image) (st .session) next o)
-kept-session st next k (opening.Refused r) = λ e. refl
-kept-session st next k (opening.Valid c) =
-    kept-cond (st .session .begun) st _ _ (kept-cond (current c (st .image) (st .session)) st _ _ (k c) (λ e. refl)) (λ e. refl)
+-- whatever is checked first
+pub kept-on : (st : State) (next : Container → After) → ((c : Container) → Kept st (next c)) → (o : Opened) → Kept st (goesOn (st .image) (st .session) next o)
+kept-on st next k (opening.Refused r) = λ e. refl
+kept-on st next k (opening.Valid c) = k c
 
 kept-write : (st : State) (q place : ℕ) (bytes : List ℕ) (c : Container) → Kept st (writeOn (st .image) (st .session) q place bytes c)
 kept-write st q place bytes c =
@@ -116,7 +103,7 @@ abbrev commitNext : Form → State → Container → After
 commitNext Plain st = commitOn (st .image)
 commitNext (Signed key signer) st = commitBy (st .image) (st .session) key signer (signed (st .image) signer)
 
-commit-is : (form : Form) (st : State) → committedAs form st ≡ inSession (st .image) (st .session) (commitNext form st) (opened (st .image))
+commit-is : (form : Form) (st : State) → committedAs form st ≡ goesOn (st .image) (st .session) (commitNext form st) (entered (st .image) (st .session))
 unfolding commit commitSigned
 commit-is Plain st = refl
 commit-is (Signed key signer) st = refl
@@ -132,11 +119,11 @@ kept-commit (Signed key signer) st c = by (signed (st .image) signer)
 pub refused : (c : Call) (st : State) → ruled c st ≡ Refused → next c st ≡ st
 unfolding perform begin write abandon
 refused (Ask query) st e = refl
-refused Begin st e = kept-begin st (opened (st .image)) e
+refused Begin st e = kept-on st (beginOn (st .image)) (λ c. kept-done st _ _) (whileIdle (st .session) (opened (st .image))) e
 refused (Write q place bytes) st e =
-    kept-session st (writeOn (st .image) (st .session) q place bytes) (kept-write st q place bytes) (opened (st .image)) e
+    kept-on st (writeOn (st .image) (st .session) q place bytes) (kept-write st q place bytes) (entered (st .image) (st .session)) e
 refused (Commit form) st e =
-    subst (Kept st) (sym (commit-is form st)) (kept-session st (commitNext form st) (kept-commit form st) (opened (st .image))) e
+    subst (Kept st) (sym (commit-is form st)) (kept-on st (commitNext form st) (kept-commit form st) (entered (st .image) (st .session))) e
 refused Abandon st e = by (st .session .begun) e
   where
     by : (t : Bool) → endingOf ((cond {A = Abandoned} t (record { outcome = ending.Accepted; session = idle }) (record { outcome = ending.Refused SessionState; session = st .session })) .outcome) ≡ Refused
@@ -149,18 +136,9 @@ refused Abandon st e = by (st .session .begun) e
 abbrev pub Lasts : After → Type 0
 Lasts a = endingOf (a .outcome) ≡ Dropped → ⊥
 
-pub lasts-cond : (t : Bool) (a b : After) → Lasts a → Lasts b → Lasts (cond t a b)
-lasts-cond true a b p q = p
-lasts-cond false a b p q = q
-
-lasts-begin : (image : List ℕ) (session : Session) (o : Opened) → Lasts (beginIn image session o)
-lasts-begin image session (opening.Refused r) = λ e. not-dropped e refl
-lasts-begin image session (opening.Valid c) = lasts-cond (session .begun) _ _ (λ e. not-dropped e refl) (λ e. not-taken e refl)
-
-lasts-session : (image : List ℕ) (session : Session) (next : Container → After) → ((c : Container) → Lasts (next c)) → (o : Opened) → Lasts (inSession image session next o)
-lasts-session image session next l (opening.Refused r) = λ e. not-dropped e refl
-lasts-session image session next l (opening.Valid c) =
-    lasts-cond (session .begun) _ _ (lasts-cond (current c image session) _ _ (l c) (λ e. not-dropped e refl)) (λ e. not-dropped e refl)
+pub lasts-on : (image : List ℕ) (session : Session) (next : Container → After) → ((c : Container) → Lasts (next c)) → (o : Opened) → Lasts (goesOn image session next o)
+lasts-on image session next l (opening.Refused r) = λ e. not-dropped e refl
+lasts-on image session next l (opening.Valid c) = l c
 
 lasts-commit : (form : Form) (st : State) (c : Container) → Lasts (commitNext form st c)
 lasts-commit Plain st c = λ e. not-taken e refl
@@ -175,52 +153,25 @@ lasts-abandon : (session : Session) (t : Bool)
 lasts-abandon session true e = not-taken e refl
 lasts-abandon session false e = not-dropped e refl
 
-lasts-opening : (o : Opened) → ruling (Opening o) ≡ Dropped → ⊥
-lasts-opening (opening.Valid c) e = not-taken e refl
-lasts-opening (opening.Refused r) e = not-dropped e refl
-
-lasts-outcome : (o : Outcome) → rulingOf o ≡ Dropped → ⊥
-lasts-outcome outcome.Accepted e = not-taken e refl
-lasts-outcome (outcome.Refused r) e = not-dropped e refl
-
-lasts-verdict : (v : Verdict) → ruling (Judging v) ≡ Dropped → ⊥
-lasts-verdict verdict.Yes e = not-taken e refl
-lasts-verdict verdict.No e = not-taken e refl
-lasts-verdict (verdict.Refused r) e = not-dropped e refl
-
-lasts-count : (n : Count) → ruling (Counting n) ≡ Dropped → ⊥
-lasts-count (count.Blocks n) e = not-taken e refl
-lasts-count (count.Refused r) e = not-dropped e refl
-
-lasts-listing : (n : Count) (row : List Fault) → ruling (Listing n row) ≡ Dropped → ⊥
-lasts-listing (count.Blocks n) row e = not-taken e refl
-lasts-listing (count.Refused r) row e = not-dropped e refl
-
-lasts-built : (b : Built) (buffer : List ℕ) → ruling (Building b buffer) ≡ Dropped → ⊥
-lasts-built (built.Bytes n) buffer e = not-taken e refl
-lasts-built (built.Refused r) buffer e = not-dropped e refl
-
-lasts-names : (n : Listed) → namesRuling n ≡ Dropped → ⊥
-lasts-names (listed.Names n) e = not-taken e refl
-lasts-names (listed.Refused r) e = not-dropped e refl
-
-lasts-found : (s : Sought) → ruling (Finding s) ≡ Dropped → ⊥
-lasts-found (sought.File f) e = not-taken e refl
-lasts-found sought.Nothing e = not-taken e refl
-lasts-found (sought.Refused r) e = not-dropped e refl
+lasts-said : (s : Said) → ruledBy s ≡ Dropped → ⊥
+lasts-said s = by (eqb (s .number) 0)
+  where
+    by : (t : Bool) → cond t Accepted Refused ≡ Dropped → ⊥
+    by true e = not-taken e refl
+    by false e = not-dropped e refl
 
 lasts-query : (query : Query) (st : State) → ruling (reply query st) ≡ Dropped → ⊥
 unfolding reply
-lasts-query (Open form) st = lasts-opening (openedAs form (st .image))
-lasts-query (ReadCommitted q place buffer) st = lasts-outcome (readCommitted (st .image) q place buffer .outcome)
-lasts-query (ReadStaged q place buffer) st = lasts-outcome (readStaged (st .image) (st .session) q place buffer .outcome)
-lasts-query (IsVerified q b) st = lasts-verdict (isVerified (st .image) q b)
-lasts-query (CountVerified q) st = lasts-count (countVerified (st .image) q)
-lasts-query (ListFaults row) st = lasts-listing (countFaults (st .image)) (rowAfter (faults (st .image)) row)
-lasts-query (SigningBlock signer buffer) st = lasts-built (builtAs (signed (st .image) signer)) (blockLeft (signed (st .image) signer) buffer)
-lasts-query (SigningDigest signer buffer) st = lasts-outcome (outcomeOf (signed (st .image) signer))
-lasts-query (ListNames row) st = lasts-names (listNames (st .image) row .answer)
-lasts-query (FindFile folder name) st = lasts-found (findFile (st .image) folder name)
+lasts-query (Open form) st = lasts-said (openedSays (openedAs form (st .image)))
+lasts-query (ReadCommitted q place buffer) st = lasts-said (outcomeSays (readCommitted (st .image) q place buffer .outcome))
+lasts-query (ReadStaged q place buffer) st = lasts-said (outcomeSays (readStaged (st .image) (st .session) q place buffer .outcome))
+lasts-query (IsVerified q b) st = lasts-said (verdictSays (isVerified (st .image) q b))
+lasts-query (CountVerified q) st = lasts-said (countSays (countVerified (st .image) q))
+lasts-query (ListFaults row) st = lasts-said (countSays (countFaults (st .image)))
+lasts-query (SigningBlock signer buffer) st = lasts-said (builtSays (builtAs (signed (st .image) signer)))
+lasts-query (SigningDigest signer buffer) st = lasts-said (outcomeSays (outcomeOf (signed (st .image) signer)))
+lasts-query (ListNames row) st = lasts-said (listedSays (listNames (st .image) row .answer))
+lasts-query (FindFile folder name) st = lasts-said (soughtSays (findFile (st .image) folder name))
 
 abbrev pub isWrite : Call → Bool
 isWrite (Ask query) = false
@@ -232,10 +183,10 @@ isWrite Abandon = false
 pub lasts : (c : Call) (st : State) → isWrite c ≡ false → ruled c st ≡ Dropped → ⊥
 unfolding perform begin abandon
 lasts (Ask query) st n = lasts-query query st
-lasts Begin st n = lasts-begin (st .image) (st .session) (opened (st .image))
+lasts Begin st n = lasts-on (st .image) (st .session) (beginOn (st .image)) (λ c e. not-taken e refl) (whileIdle (st .session) (opened (st .image)))
 lasts (Write q place bytes) st n = absurd (true≢false n)
 lasts (Commit form) st n =
-    subst Lasts (sym (commit-is form st)) (lasts-session (st .image) (st .session) (commitNext form st) (lasts-commit form st) (opened (st .image)))
+    subst Lasts (sym (commit-is form st)) (lasts-on (st .image) (st .session) (commitNext form st) (lasts-commit form st) (entered (st .image) (st .session)))
 lasts Abandon st n = lasts-abandon (st .session) (st .session .begun)
 
 -- ---- an idle session refuses the calls that need a begun one
@@ -247,32 +198,37 @@ needsBegun (Write q place bytes) = true
 needsBegun (Commit form) = true
 needsBegun Abandon = true
 
-idle-session : (image : List ℕ) (session : Session) (next : Container → After) → session .begun ≡ false → (o : Opened)
-    → endingOf (inSession image session next o .outcome) ≡ Refused
-idle-session image session next i (opening.Refused r) = refl
-idle-session image session next i (opening.Valid c) = rw i
+idle-session : (image : List ℕ) (session : Session) (next : Container → After) → session .begun ≡ false
+    → endingOf (goesOn image session next (entered image session) .outcome) ≡ Refused
+unfolding entered
+idle-session image session next i = by (opened image)
+  where
+    by : (o : Opened) → endingOf (goesOn image session next (whileBegun image session o) .outcome) ≡ Refused
+    by (opening.Refused r) = refl
+    by (opening.Valid c) = rw i
 
 pub idles : (c : Call) (st : State) → needsBegun c ≡ true → st .session .begun ≡ false → ruled c st ≡ Refused
 unfolding perform write abandon
 idles (Ask query) st n i = absurd (true≢false (sym n))
 idles Begin st n i = absurd (true≢false (sym n))
-idles (Write q place bytes) st n i = idle-session (st .image) (st .session) (writeOn (st .image) (st .session) q place bytes) i (opened (st .image))
+idles (Write q place bytes) st n i = idle-session (st .image) (st .session) (writeOn (st .image) (st .session) q place bytes) i
 idles (Commit form) st n i =
-    ap (λ (a : After). endingOf (a .outcome)) (commit-is form st) ∙ idle-session (st .image) (st .session) (commitNext form st) i (opened (st .image))
+    ap (λ (a : After). endingOf (a .outcome)) (commit-is form st) ∙ idle-session (st .image) (st .session) (commitNext form st) i
 idles Abandon st n i = rw i
 
 -- ---- what a call was that was not refused
 
 -- by a test on the way of a call that was not refused
-pub went : (t : Bool) (a b : After) → endingOf (b .outcome) ≡ Refused → (endingOf (cond t a b .outcome) ≡ Refused → ⊥)
+went : (t : Bool) (a b : After) → endingOf (b .outcome) ≡ Refused → (endingOf (cond t a b .outcome) ≡ Refused → ⊥)
     → (t ≡ true) × (cond t a b ≡ a) × (endingOf (a .outcome) ≡ Refused → ⊥)
 went true a b r e = (refl, refl, e)
 went false a b r e = absurd (e r)
 
-pub went-not : (t : Bool) (a b : After) → endingOf (a .outcome) ≡ Refused → (endingOf (cond t a b .outcome) ≡ Refused → ⊥)
-    → (t ≡ false) × (cond t a b ≡ b) × (endingOf (b .outcome) ≡ Refused → ⊥)
-went-not true a b r e = absurd (e r)
-went-not false a b r e = (refl, refl, e)
+-- and by its first checks
+pub went-on : (image : List ℕ) (session : Session) (next : Container → After) (o : Opened) → (endingOf (goesOn image session next o .outcome) ≡ Refused → ⊥)
+    → (c : Container) × (o ≡ opening.Valid c)
+went-on image session next (opening.Refused r) e = absurd (e refl)
+went-on image session next (opening.Valid c) e = (c, refl)
 
 took-leaving : (o : Outcome) (image : List ℕ) (session : Session) (next : After) → (endingOf (leaving o image session next .outcome) ≡ Refused → ⊥)
     → (o ≡ outcome.Accepted) × (leaving o image session next ≡ next)
@@ -301,28 +257,31 @@ module _ (image : List ℕ) (session : Session) (c : Container) (o : opened imag
   pub begun-by : endingOf (begin image session .outcome) ≡ Accepted → Begun
   unfolding begin
   begun-by e =
-      let t = went-not (session .begun) (unchanged image session SessionState)
-      (done (begunImage c image) (begunWith (headerBytes image))) refl
-      (λ r. not-both (subst (λ (x : Opened). endingOf (beginIn image session x .outcome) ≡ Accepted) o e) r) in
-      record { idle = t .0; after = ap (beginIn image session) o ∙ t .1 }
+      let (d, f) = went-on image session (beginOn image) (whileIdle session (opened image)) (λ r. not-both e r) in
+      let g : whileIdle session (opened image) ≡ opening.Valid c = f ∙ sym (idle-is session (opened image) d f .0) ∙ o in
+      record { idle = idle-is session (opened image) c g .1; after = ap (goesOn image session (beginOn image)) g }
 
   -- one of a begun session passed 13 and 14
   pub record Reached (next : Container → After) : Type 0 where
     pub begun : session .begun ≡ true
     pub current : current c image session ≡ true
-    pub after : inSession image session next (opened image) ≡ next c
+    pub after : goesOn image session next (entered image session) ≡ next c
     pub unrefused : endingOf (next c .outcome) ≡ Refused → ⊥
 
-  pub reached-by : (next : Container → After) → (endingOf (inSession image session next (opened image) .outcome) ≡ Refused → ⊥) → Reached next
+  pub reached-by : (next : Container → After) → (endingOf (goesOn image session next (entered image session) .outcome) ≡ Refused → ⊥) → Reached next
   reached-by next e =
-      let d = cond (current c image session) (next c) (unchanged image session Stale) in
-      let t1 = went (session .begun) d (unchanged image session SessionState) refl
-      (subst (λ (x : Opened). endingOf (inSession image session next x .outcome) ≡ Refused → ⊥) o e) in
-      let t2 = went (current c image session) (next c) (unchanged image session Stale) refl (t1 .2) in
-      record { begun = t1 .0; current = t2 .0; after = ap (inSession image session next) o ∙ t1 .1 ∙ t2 .1; unrefused = t2 .2 }
+      let (d, f) = went-on image session next (entered image session) e in
+      let g : entered image session ≡ opening.Valid c = f ∙ sym (entered-is image session d f .0) ∙ o in
+      let (p, b, n) = entered-is image session c g in
+      record {
+        begun = b;
+        current = n;
+        after = ap (goesOn image session next) g;
+        unrefused = subst (λ (x : Opened). endingOf (goesOn image session next x .outcome) ≡ Refused → ⊥) g e;
+      }
 
   -- and is accepted if what it came to is
-  pub taken : (next : Container → After) → Reached next → endingOf (inSession image session next (opened image) .outcome) ≡ Accepted → endingOf (next c .outcome) ≡ Accepted
+  pub taken : (next : Container → After) → Reached next → endingOf (goesOn image session next (entered image session) .outcome) ≡ Accepted → endingOf (next c .outcome) ≡ Accepted
   taken next r e = subst (λ (a : After). endingOf (a .outcome) ≡ Accepted) (r .after) e
 
   -- a write that was not refused was finished
@@ -380,8 +339,7 @@ module _ (image : List ℕ) (session : Session) (c : Container) (o : opened imag
 
 -- the image that a commit of either form leaves
 abbrev pub landedImage : Form → Container → List ℕ → List ℕ
-landedImage Plain c image = committedImage c image
-landedImage (Signed key signer) c image = committedSigned c image key signer
+landedImage form c image = storedAs form image (headerCommitted c image)
 
 pub record Committed (form : Form) (st : State) (c : Container) : Type 0 where
   pub begun : st .session .begun ≡ true
@@ -391,12 +349,13 @@ pub record Committed (form : Form) (st : State) (c : Container) : Type 0 where
 -- a signed commit that is accepted has its block
 took-signed : (image : List ℕ) (session : Session) (key : List ℕ) (signer : Signer) (c : Container) (a : Answer)
     → endingOf (commitBy image session key signer a c .outcome) ≡ Accepted
-    → commitBy image session key signer a c ≡ landed image (committedSigned c image key signer)
+    → commitBy image session key signer a c ≡ landed image (landedImage (Signed key signer) c image)
+unfolding committedSigned
 took-signed image session key signer c (Signs block) e = refl
 took-signed image session key signer c (signing.Refused r) e = not-both e refl
 
 pub committed-by : (form : Form) (st : State) (c : Container) → opened (st .image) ≡ opening.Valid c → ruled (Commit form) st ≡ Accepted → Committed form st c
-unfolding perform
+unfolding perform committedImage
 committed-by form st c o e =
     let a = sym (ap (λ (a : After). endingOf (a .outcome)) (commit-is form st)) ∙ e in
     let r = reached-by (st .image) (st .session) c o (commitNext form st) (λ n. not-both a n) in
@@ -420,22 +379,19 @@ signed-first key signer st c o e =
     by (signing.Refused r) k e = not-both e refl
 
 -- no call changes an image that does not open
-unopened-session : (image : List ℕ) (session : Session) (next : Container → After) (o : Opened) → opened image ≡ o
-    → ((c : Container) → opened image ≡ opening.Valid c → ⊥) → inSession image session next o .image ≡ image
-unopened-session image session next (opening.Valid c) e h = absurd (h c e)
-unopened-session image session next (opening.Refused r) e h = refl
+unopened-on : (image : List ℕ) (session : Session) (next : Container → After) (o : Opened) → ((c : Container) → o ≡ opening.Valid c → ⊥) → goesOn image session next o .image ≡ image
+unopened-on image session next (opening.Valid c) h = absurd (h c refl)
+unopened-on image session next (opening.Refused r) h = refl
 
 pub unopened : (call : Call) (st : State) → ((c : Container) → opened (st .image) ≡ opening.Valid c → ⊥) → next call st .image ≡ st .image
 unfolding perform begin write
 unopened (Ask query) st h = refl
-unopened Begin st h = by (opened (st .image)) refl
-  where
-    by : (o : Opened) → opened (st .image) ≡ o → beginIn (st .image) (st .session) o .image ≡ st .image
-    by (opening.Valid c) e = absurd (h c e)
-    by (opening.Refused r) e = refl
-unopened (Write q place bytes) st h = unopened-session (st .image) (st .session) (writeOn (st .image) (st .session) q place bytes) (opened (st .image)) refl h
+unopened Begin st h = unopened-on (st .image) (st .session) (beginOn (st .image)) (whileIdle (st .session) (opened (st .image))) (λ c e. h c (idle-is (st .session) (opened (st .image)) c e .0))
+unopened (Write q place bytes) st h =
+    unopened-on (st .image) (st .session) (writeOn (st .image) (st .session) q place bytes) (entered (st .image) (st .session)) (λ c e. h c (entered-is (st .image) (st .session) c e .0))
 unopened (Commit form) st h =
-    ap (λ (a : After). a .image) (commit-is form st) ∙ unopened-session (st .image) (st .session) (commitNext form st) (opened (st .image)) refl h
+    ap (λ (a : After). a .image) (commit-is form st)
+    ∙ unopened-on (st .image) (st .session) (commitNext form st) (entered (st .image) (st .session)) (λ c e. h c (entered-is (st .image) (st .session) c e .0))
 unopened Abandon st h = refl
 
 pub abandoned-by : (session : Session) → endingOf (abandon session .outcome) ≡ Accepted → (session .begun ≡ true) × (abandon session .session ≡ idle)
@@ -456,12 +412,10 @@ idle-rests = refl
 -- an accepted commit is one of an image that opens, and leaves an idle session
 pub opens-first : (form : Form) (st : State) → ruled (Commit form) st ≡ Accepted → (c : Container) × (opened (st .image) ≡ opening.Valid c)
 unfolding perform
-opens-first form st e = by (opened (st .image)) refl (sym (ap (λ (a : After). endingOf (a .outcome)) (commit-is form st)) ∙ e)
-  where
-    by : (o : Opened) → opened (st .image) ≡ o → endingOf (inSession (st .image) (st .session) (commitNext form st) o .outcome) ≡ Accepted
-        → (c : Container) × (opened (st .image) ≡ opening.Valid c)
-    by (opening.Valid c) o e = (c, o)
-    by (opening.Refused r) o e = not-both e refl
+opens-first form st e =
+    let a = sym (ap (λ (a : After). endingOf (a .outcome)) (commit-is form st)) ∙ e in
+    let (c, f) = went-on (st .image) (st .session) (commitNext form st) (entered (st .image) (st .session)) (λ n. not-both a n) in
+    (c, entered-is (st .image) (st .session) c f .0)
 
 pub idle-after : (form : Form) (st : State) → ruled (Commit form) st ≡ Accepted → next (Commit form) st .session .begun ≡ false
 unfolding perform

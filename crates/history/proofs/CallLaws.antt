@@ -8,28 +8,20 @@ use Rattle.layout.specs.declared.Container.{Container}
 use Rattle.layout.specs.declared.Opened.the-variants as opening
 use Rattle.layout.specs.Headers.{headerBytes}
 use Rattle.layout.specs.Opening.{opened}
-use Rattle.dpfs.specs.Free.{Free}
 use Rattle.update.specs.Staged.{writtenTo, holdsZero}
-use Rattle.views.specs.Places.{partitions, partitionOf, committedView, stagedView, spaceOf}
+use Rattle.views.specs.Places.{partitions, partitionOf, committedView, stagedView}
 use Rattle.layout.specs.declared.Outcome.the-variants as outcome
 use Rattle.steps.specs.Sessions.{begunImage, tableStaged, writeOutcome}
 use Rattle.commits.specs.Committing.{headerCommitted}
 use Rattle.history.specs.Model.{laidOver, Form}
 use Rattle.views.specs.Versions.{versionOf}
-use Rattle.history.specs.External.{InPlace, LeftBut}
-use Rattle.history.specs.Former.{Left}
+use Rattle.history.specs.External.{InPlace}
+use Rattle.history.proofs.Agreeing.{LeftBut, None}
 use Rattle.history.proofs.CallCases.{landedImage}
-
--- an image that differs from another in free bytes only opens alike, has the same header and committed views, and no more free bytes
-pub record FrameLaws (c : Container) (image left : List ℕ) : Type 0 where
-  pub opens : opened left ≡ opening.Valid c
-  pub header : headerBytes left ≡ headerBytes image
-  pub free : (i : ℕ) → Free (spaceOf c) left i → Free (spaceOf c) image i
-  pub version : (q : ℕ) → q < partitions c → versionOf (committedView c q) left ≡ versionOf (committedView c q) image
 
 -- begin stores to free bytes, stages the table, and what it stages is what is committed
 pub record BeginLaws (c : Container) (image : List ℕ) : Type 0 where
-  pub stores : Left c image (begunImage c image)
+  pub stores : LeftBut None c image (begunImage c image)
   pub table : tableStaged c (begunImage c image) ≡ true
   pub version : (q : ℕ) → q < partitions c → versionOf (stagedView c q) (begunImage c image) ≡ versionOf (committedView c q) image
 
@@ -57,7 +49,6 @@ pub record CommitLaws (c : Container) (image after : List ℕ) : Type 0 where
   pub version : (q : ℕ) → q < partitions c → versionOf (committedView container q) after ≡ versionOf (stagedView c q) image
 
 pub record CallLaws : Type 0 where
-  pub frame : (image left : List ℕ) (c : Container) → opened image ≡ opening.Valid c → Left c image left → FrameLaws c image left
   pub begin : (image : List ℕ) (c : Container) → opened image ≡ opening.Valid c → BeginLaws c image
   pub write : (image : List ℕ) (c : Container) → opened image ≡ opening.Valid c → (q place : ℕ) (bytes : List ℕ) → q < partitions c
       → writeOutcome (stagedView c q) image place (length bytes) ≡ outcome.Accepted

@@ -1,6 +1,5 @@
 -- The laws of the calls hold. Assumes nothing.
 use Rattle.history.proofs.CallLaws.{CallLaws}
-use Rattle.history.proofs.Frames.{framed}
 use Rattle.history.proofs.Begins.{begins}
 use Rattle.history.proofs.Writes.{writes}
 use Rattle.layout.proofs.GuaranteeLaws.{guarantees}
@@ -9,7 +8,6 @@ use Rattle.history.proofs.Units.{headed}
 
 pub call-laws : CallLaws
 call-laws = record {
-  frame = framed;
   begin = begins;
   write = λ image c o q place bytes there ok. writes image c o q place bytes there ok;
   commit = commits;

@@ -11,12 +11,14 @@ use Rattle.number.proofs.FrameLaws.{keeps-refl, keeps-trans, keeps-more}
 use Rattle.layout.specs.declared.Container.{Container}
 use Rattle.layout.specs.declared.Opened.the-variants as opening
 use Rattle.layout.specs.Opening.{opened}
+use Rattle.steps.specs.Sessions.{begunImage}
 use Rattle.steps.specs.Calls.{After}
 use Rattle.history.specs.Model.{Form, Call, Ask, Begin, Write, Commit, Abandon, Ruling, Accepted, Refused, Dropped, Did, Event}
 use Rattle.history.specs.Run.{State, perform, ruled, next, after, events, commits, commitOf, putBy}
 use Rattle.history.proofs.CallCases.{refused, begun-by, written-by, ended-by, isWrite, lasts}
 use Rattle.layout.proofs.GuaranteeLaws.{guarantees}
-use Rattle.history.specs.External.{storedBy, InPlace, InPlaceBy, InPlaceOf, LeftBut}
+use Rattle.history.specs.External.{storedBy, InPlace, InPlaceBy, InPlaceOf}
+use Rattle.history.proofs.Agreeing.{LeftBut, left-more}
 use Rattle.history.proofs.CallLaws.{CallLaws}
 use Rattle.history.proofs.Outers.{Outer, still-opens, free-stays}
 
@@ -42,7 +44,7 @@ module _ (W : CallLaws) where
   spares-ruled (Ask query) Accepted st c e h o = keeps-refl _ _
   spares-ruled Begin Accepted st c e h o =
       subst (λ (a : After). LeftBut (InPlaceBy c (Did Begin Accepted)) c (st .image) (a .image)) (sym (begun-by (st .image) (st .session) c o e .after))
-      (keeps-more (λ i f. inl f) (W .begin (st .image) c o .stores))
+      (left-more (InPlaceBy c (Did Begin Accepted)) c (st .image) (begunImage c (st .image)) (W .begin (st .image) c o .stores))
   spares-ruled (Write q place bytes) Accepted st c e h o =
       let b = written-by (st .image) (st .session) c o q place bytes e in
       subst (λ (a : After). LeftBut (InPlaceBy c (Did (Write q place bytes) Accepted)) c (st .image) (a .image)) (sym (b .after))
@@ -81,6 +83,6 @@ module _ (W : CallLaws) where
       let g = guarantees (st .image) c o in
       let o' = still-opens (st .image) (next call st .image) c g (InPlaceBy c e) (by-outer c e) k o in
       keeps-trans
-      (λ i. elim [ inl f ↦ inl (free-stays (st .image) (next call st .image) c g (InPlaceBy c e) (by-outer c e) k i f) | inr w ↦ inr (inr w) ])
+      (λ i. elim [ inl f ↦ inl (free-stays (st .image) (next call st .image) c g (InPlaceBy c e) (by-outer c e) k i .0 f) | inr w ↦ inr (inr w) ])
       (keeps-more (λ i. elim [ inl f ↦ inl f | inr w ↦ inr (inl w) ]) k)
       (stores (next call st) calls c o' (omega arith))

@@ -1,7 +1,7 @@
 -- What a commit does to opening's fields: a descriptor that differs from a good one in its selector and its master hash is good too, and so
 -- is a header that differs in its flag and its hash. Assumes nothing.
 use mathlib.Core.Path.{_≡_, refl, sym, ap, _∙_, subst}
-use mathlib.Core.Bool.{Bool, true, not, _&&_, _||_, cond}
+use mathlib.Core.Bool.{true, not, _&&_, _||_, cond}
 use mathlib.Core.List.{List, [], _∷_}
 use mathlib.Core.Logic.{inl, inr}
 use Prim.Native.Nat.{ℕ, _+_, _-_, _≤_, _<_}
@@ -21,16 +21,15 @@ use Rattle.layout.specs.declared.Kind.the-variants.{Disa, Diff}
 use Rattle.layout.specs.declared.Header.{Header}
 use Rattle.layout.specs.declared.Difi.{Difi}
 use Rattle.layout.specs.declared.Partition.{Partition}
-use Rattle.layout.specs.declared.JudgedHeader.the-variants.{GoodHeader, BadHeader}
-use Rattle.layout.specs.declared.Refusal.the-variants.{Format, Selection, Geometry}
+use Rattle.layout.specs.declared.JudgedHeader.the-variants.{GoodHeader}
 use Rattle.layout.specs.declared.JudgedPartition.the-variants.{GoodPartition}
 use Rattle.limits.specs.Limits.{difiSize, ivfcSize, dpfsSize, masterAllowed, countAllowed, flagAllowed}
 use Rattle.layout.specs.Every.{every}
-use Rattle.layout.specs.Magic.{opensWith, disaMagic, diffMagic, difiMagic}
-use Rattle.layout.specs.Headers.{flagOffset, hashRange, rangeAt, noSlot, unused, disaHeader, diffHeader, headerMagic, headerFields, selectionAllowed, geometryAllowed, judgedFields, judgedHeader}
+use Rattle.layout.specs.Magic.{opensWith, difiMagic}
+use Rattle.layout.specs.Headers.{flagOffset, hashRange, rangeAt, noSlot, unused, disaHeader, diffHeader, headerMagic, headerFields, selectionAllowed, geometryAllowed, judgedHeader}
 use Rattle.layout.specs.Descriptors.{difiFields, ivfcFields, dpfsFields, partitionFields, difiAllowed, ivfcAllowed, dpfsAllowed, readable, formAllowed, piecesPlaced, levelsPlaced, allEnough, placesAllowed, judgedPartition}
 use Rattle.layout.specs.Guarantees.{PartitionGuarantees}
-use Rattle.layout.proofs.HeaderLaws.{HeaderChecks, one-kind}
+use Rattle.layout.proofs.HeaderLaws.{HeaderChecks, header-passes}
 use Rattle.commits.proofs.HeaderLaws.{hash-inside}
 
 -- ---- fields of two lists that agree from a to b
@@ -316,31 +315,15 @@ module _ (n : ℕ) (s hash : List ℕ) (h : Header) (size : length s ≡ 256) (d
   unfolding geometryAllowed
   flipped-geometry = k .geometry
 
-  judged-fields : judgedFields n (headerFlipped h) ≡ GoodHeader (headerFlipped h)
-  unfolding judgedFields
-  judged-fields =
-      ap (λ (x : Bool). cond x (cond (geometryAllowed n (headerFlipped h)) (GoodHeader (headerFlipped h)) (BadHeader Geometry)) (BadHeader Selection)) flipped-selection
-      ∙ ap (λ (x : Bool). cond x (GoodHeader (headerFlipped h)) (BadHeader Geometry)) flipped-geometry
+  header-magic : (kind : Kind) → opensWith s (headerMagic kind) ≡ true → opensWith (reheaded kind (1 - h .flag) hash s) (headerMagic kind) ≡ true
+  header-magic kind magic = reheaded-magic kind (1 - h .flag) hash s size digest (headerMagic kind) ∙ magic
+
+  header-fields : (kind : Kind) → h ≡ headerFields kind s → headerFlipped h ≡ headerFields kind (reheaded kind (1 - h .flag) hash s)
+  header-fields Disa e = ap headerFlipped e ∙ sym (disa-fields (1 - h .flag) hash s size digest (ap (λ (x : Header). 1 - x .flag) e))
+  header-fields Diff e =
+      ap headerFlipped e ∙ sym (diff-fields (1 - h .flag) hash s size digest (ap (λ (x : Header). 1 - x .flag) e) (subst (λ (x : Header). x .flag ≤ 1) e small))
 
   pub flipped-header : judgedHeader n (reheaded (h .kind) (1 - h .flag) hash s) ≡ GoodHeader (headerFlipped h)
-  unfolding judgedHeader
-  flipped-header = go (h .kind) (k .magic) (k .fields)
-    where
-      go : (kind : Kind) → opensWith s (headerMagic kind) ≡ true → h ≡ headerFields kind s
-          → judgedHeader n (reheaded kind (1 - h .flag) hash s) ≡ GoodHeader (headerFlipped h)
-      go Disa magic fields =
-          let t = reheaded Disa (1 - h .flag) hash s in
-          let opens : opensWith t disaMagic ≡ true = reheaded-magic Disa (1 - h .flag) hash s size digest disaMagic ∙ magic in
-          let same : disaHeader t ≡ headerFlipped h =
-          disa-fields (1 - h .flag) hash s size digest (ap (λ (x : Header). 1 - x .flag) fields) ∙ ap headerFlipped (sym fields) in
-          ap (λ (x : Bool). cond x (judgedFields n (disaHeader t)) (cond (opensWith t diffMagic) (judgedFields n (diffHeader t)) (BadHeader Format))) opens
-          ∙ ap (judgedFields n) same ∙ judged-fields
-      go Diff magic fields =
-          let t = reheaded Diff (1 - h .flag) hash s in
-          let opens : opensWith t diffMagic ≡ true = reheaded-magic Diff (1 - h .flag) hash s size digest diffMagic ∙ magic in
-          let low : diffHeader s .flag ≤ 1 = subst (λ (x : Header). x .flag ≤ 1) fields small in
-          let same : diffHeader t ≡ headerFlipped h =
-          diff-fields (1 - h .flag) hash s size digest (ap (λ (x : Header). 1 - x .flag) fields) low ∙ ap headerFlipped (sym fields) in
-          ap (λ (x : Bool). cond x (judgedFields n (disaHeader t)) (cond (opensWith t diffMagic) (judgedFields n (diffHeader t)) (BadHeader Format))) (one-kind t opens)
-          ∙ ap (λ (x : Bool). cond x (judgedFields n (diffHeader t)) (BadHeader Format)) opens
-          ∙ ap (judgedFields n) same ∙ judged-fields
+  flipped-header =
+      header-passes n (reheaded (h .kind) (1 - h .flag) hash s) (headerFlipped h)
+      (record { magic = header-magic (h .kind) (k .magic); fields = header-fields (h .kind) (k .fields); selection = flipped-selection; geometry = flipped-geometry })

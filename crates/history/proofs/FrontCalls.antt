@@ -22,7 +22,7 @@ use Rattle.layout.specs.declared.Opened.{Opened}
 use Rattle.layout.specs.declared.Opened.the-variants as opening
 use Rattle.layout.specs.declared.Outcome.{Outcome}
 use Rattle.layout.specs.declared.Outcome.the-variants as outcome
-use Rattle.layout.specs.declared.Refusal.the-variants.{NoPartition, SessionState, Stale, NothingToRevert}
+use Rattle.layout.specs.declared.Refusal.the-variants.{NoPartition, NothingToRevert}
 use Rattle.layout.specs.Headers.{headerBytes, flagOffset, hashRange}
 use Rattle.layout.specs.Tables.{inactive}
 use Rattle.layout.specs.Opening.{opened}
@@ -31,10 +31,10 @@ use Rattle.layout.proofs.FrameLaws.{agree-part}
 use Rattle.layout.proofs.GuaranteeLaws.{guarantees}
 use Rattle.signing.specs.declared.Signer.{Signer}
 use Rattle.signing.specs.Calls as signing
-use Rattle.signing.specs.Calls.{signed, builtAs, outcomeOf, blockLeft, digestLeft}
+use Rattle.signing.specs.Calls.{signedHeader, signed, builtAs, outcomeOf, blockLeft, digestLeft}
 use Rattle.signatures.specs.Signatures.{signatureRange, signature}
 use Rattle.signatures.proofs.Laws.{length-signature}
-use Rattle.commits.specs.Committing.{headerCommitted, committedImage, storedSigned, committedSigned, revertedImage, revertedSigned}
+use Rattle.commits.specs.Committing.{storedHeader, storedSigned, headerCommitted, committedImage, committedSigned}
 use Rattle.dpfs.specs.Free.{InRange}
 use Rattle.ivfc.specs.declared.View.{View}
 use Rattle.update.specs.Staged.{writtenTo, holdsZero}
@@ -42,8 +42,9 @@ use Rattle.views.specs.Places.{partitions, stagedView}
 use Rattle.views.proofs.PlaceLaws.{inactive-table}
 use Rattle.steps.specs.declared.Ending.the-variants as ending
 use Rattle.steps.specs.declared.Session.{Session}
-use Rattle.steps.specs.Sessions.{idle, begunWith, remembering, begunImage, current, endsOutcome, writeOutcome, isValid, revertible}
-use Rattle.steps.specs.Calls.{After, unchanged, done, beginIn, begin, finished, leaving, writeTo, inSession, writeOn, write, landed, commitOn, commit, commitBy, commitSigned, reverting, revert, revertBy, revertSigned}
+use Rattle.steps.specs.Sessions.{idle, begunWith, remembering, endsOutcome, writeOutcome, isValid, revertible}
+use Rattle.steps.specs.Calls.{whileIdle, entered, whileRevertible, enteredBack, After, unchanged, done, goesOn, beginOn, begin, finished, leaving, writeTo, writeOn, write, landed, commitOn, commit, commitBy, commitSigned, revertOn, revert, revertBy, revertSigned}
+use Rattle.steps.proofs.EnterLaws.{idle-is, entered-is}
 use Rattle.faults.specs.Faults.{rowAfter}
 use Rattle.history.specs.Model.{Form, Plain, Signed, Query, Open, ReadCommitted, ReadStaged, IsVerified, CountVerified, ListFaults, SigningBlock, SigningDigest, ListNames, FindFile, Call, Ask, Begin, Write, Commit, Abandon, Answer, Opening, Reading, Judging, Counting, Listing, Building, Digesting, Naming, Finding, Stepping, Ruling, Accepted, Refused, Dropped, Did, endingOf, ruling}
 use Rattle.history.specs.Run.{State, Performed, openedAs, committedAs, reply, stepped, perform, ruled, next}
@@ -55,8 +56,9 @@ use Rattle.history.proofs.Calls.{call-laws}
 use Rattle.history.proofs.Crashing.{by-outer, spares}
 use Rattle.history.proofs.Outers.{front-stays}
 use Rattle.history.proofs.Signing.{same-signed, same-signature, unit}
-use Rattle.history.proofs.Reverts.{backImage, reverted-by, refused, lasts}
-use Rattle.history.proofs.Fronts.{Fronted, Past, staged-past, front-part, front-header, front-opened, front-seen, front-current, front-staged, front-answers}
+use Rattle.history.proofs.Stored.{storedAs}
+use Rattle.history.proofs.Reverts.{reverted-by, refused, lasts}
+use Rattle.history.proofs.Fronts.{Fronted, Past, staged-past, front-part, front-header, front-opened, front-seen, front-entered, front-staged, front-answers}
 use Rattle.history.proofs.FrontStores.{cond-through, laid-front, written-laid, begin-laid}
 
 -- ---- an image that differs from another in a range is that one with its own bytes laid over there
@@ -117,31 +119,24 @@ module _ (p : ℕ) (bytes : List ℕ) (h : p + length bytes ≤ 0x100) where
   branch t t' a b a' b' e f g = (λ i. cond (e i) (f i) (g i)) ∙ cond-through laidAfter t a b
 
   module _ (image : List ℕ) (session : Session) where
-    -- ---- begin
+    -- a call that goes on alike leaves it alike
+    goes : (next next' : Container → After) (o : Opened) → ((c : Container) → o ≡ opening.Valid c → next' c ≡ laidAfter (next c))
+        → goesOn (laid image) session next' o ≡ laidAfter (goesOn image session next o)
+    goes next next' (opening.Refused r) n = refl
+    goes next next' (opening.Valid c) n = n c refl
 
     begins : begin (laid image) session ≡ laidAfter (begin image session)
     unfolding begin
-    begins = ap (beginIn (laid image) session) (front-opened image (laid image) (front image)) ∙ by (opened image) refl
-      where
-        by : (o : Opened) → opened image ≡ o → beginIn (laid image) session o ≡ laidAfter (beginIn image session o)
-        by (opening.Refused r) e = refl
-        by (opening.Valid c) e =
-            branch (session .begun) (session .begun) (unchanged image session SessionState) (done (begunImage c image) (begunWith (headerBytes image))) _ _ refl refl
-            (λ i. done (begin-laid p bytes h image c (guarantees image c e) i) (begunWith (front-header image (laid image) (front image) i)))
-
-    -- ---- a call of a begun session
+    begins =
+        ap (λ (o : Opened). goesOn (laid image) session (beginOn (laid image)) (whileIdle session o)) (front-opened image (laid image) (front image))
+        ∙ goes (beginOn image) (beginOn (laid image)) (whileIdle session (opened image))
+        (λ c e i. done (begin-laid p bytes h image c (guarantees image c (idle-is session (opened image) c e .0)) i) (begunWith (front-header image (laid image) (front image) i)))
 
     in-session : (next next' : Container → After) → ((c : Container) → opened image ≡ opening.Valid c → next' c ≡ laidAfter (next c))
-        → inSession (laid image) session next' (opened (laid image)) ≡ laidAfter (inSession image session next (opened image))
-    in-session next next' n = ap (inSession (laid image) session next') (front-opened image (laid image) (front image)) ∙ by (opened image) refl
-      where
-        by : (o : Opened) → opened image ≡ o → inSession (laid image) session next' o ≡ laidAfter (inSession image session next o)
-        by (opening.Refused r) e = refl
-        by (opening.Valid c) e =
-            branch (session .begun) (session .begun) (cond (current c image session) (next c) (unchanged image session Stale)) (unchanged image session SessionState) _ _ refl
-            (branch (current c image session) (current c (laid image) session) (next c) (unchanged image session Stale) _ _
-            (front-current image (laid image) (front image) c (guarantees image c e) session) (n c e) refl)
-            refl
+        → goesOn (laid image) session next' (entered (laid image) session) ≡ laidAfter (goesOn image session next (entered image session))
+    in-session next next' n =
+        ap (goesOn (laid image) session next') (front-entered image (laid image) (front image) session)
+        ∙ goes next next' (entered image session) (λ c e. n c (entered-is image session c e .0))
 
     -- ---- write
 
@@ -191,18 +186,24 @@ module _ (p : ℕ) (bytes : List ℕ) (h : p + length bytes ≤ 0x100) where
     lands : (after after' : List ℕ) → after' ≡ laid after → landed (laid image) after' ≡ laidAfter (landed image after)
     lands after after' e = λ i. done (e i) (remembering (front-header image (laid image) (front image) i) ((ap headerBytes e ∙ front-header after (laid after) (front after)) i))
 
-    -- a signature and a header stored
-    signed-laid : 0x10 ≤ p → (code header : List ℕ) → length code ≡ 16 → storedSigned (laid image) code header ≡ laid (storedSigned image code header)
-    unfolding storedSigned
-    signed-laid o code header n =
-        ap (λ (s : List ℕ). sets s 0x100 header) (sym (sets-after bytes code image 0 p (omega arith))) ∙ sets-after header bytes (sets image 0 code) p 0x100 h
+    -- a header stored, and one with its signature
+    back-laid : (header : List ℕ) → storedHeader (laid image) header ≡ laid (storedHeader image header)
+    unfolding storedHeader
+    back-laid header = sets-after header bytes image p 0x100 h
+
+    signed-laid : 0x10 ≤ p → (key : List ℕ) (signer : Signer) (header : List ℕ) → storedSigned (laid image) key signer header ≡ laid (storedSigned image key signer header)
+    unfolding storedSigned storedHeader
+    signed-laid o key signer header =
+        let n = length-signature key signer header in
+        ap (λ (s : List ℕ). sets s 0x100 header) (sym (sets-after bytes (signature key signer header) image 0 p (omega arith)))
+        ∙ sets-after header bytes (sets image 0 (signature key signer header)) p 0x100 h
 
     commits : (form : Form) → OffSignature form p → committedAs form (laidState (record { image = image; session = session })) ≡ laidAfter (committedAs form (record { image = image; session = session }))
     unfolding commit commitSigned committedImage committedSigned
     commits Plain o =
         in-session (commitOn image) (commitOn (laid image))
         (λ c e. lands (committedImage c image) (committedImage c (laid image))
-        (ap (sets (laid image) 0x100) (header-laid c (guarantees image c e)) ∙ sets-after (headerCommitted c image) bytes image p 0x100 h))
+        (ap (storedHeader (laid image)) (header-laid c (guarantees image c e)) ∙ back-laid (headerCommitted c image)))
     commits (Signed key signer) o =
         in-session (commitBy image session key signer (signed image signer)) (commitBy (laid image) session key signer (signed (laid image) signer))
         (λ c e. ap (λ (a : signing.Answer). commitBy (laid image) session key signer a c) (same-signed image (laid image) (front image .size) (front-header image (laid image) (front image)) signer)
@@ -211,48 +212,41 @@ module _ (p : ℕ) (bytes : List ℕ) (h : p + length bytes ≤ 0x100) where
         by : (c : Container) → Guarantees image c → (a : signing.Answer) → commitBy (laid image) session key signer a c ≡ laidAfter (commitBy image session key signer a c)
         by c g (signing.Refused r) = refl
         by c g (signing.Signs block) =
-            let code = signature key signer (headerCommitted c image) in
             lands (committedSigned c image key signer) (committedSigned c (laid image) key signer)
-            (ap (λ (x : List ℕ). storedSigned (laid image) (signature key signer x) x) (header-laid c g)
-            ∙ signed-laid o code (headerCommitted c image) (length-signature key signer (headerCommitted c image)))
+            (ap (storedSigned (laid image) key signer) (header-laid c g) ∙ signed-laid o key signer (headerCommitted c image))
 
     -- ---- revert
-
-    back-laid : (former : List ℕ) → revertedImage (laid image) former ≡ laid (revertedImage image former)
-    unfolding revertedImage
-    back-laid former = sets-after former bytes image p 0x100 h
 
     goes-back : revertible (laid image) (session .header) (session .later) ≡ revertible image (session .header) (session .later)
     unfolding revertible
     goes-back =
-        let valid : opened (revertedImage (laid image) (session .header)) ≡ opened (revertedImage image (session .header)) =
-        ap opened (back-laid (session .header)) ∙ front-opened _ _ (front (revertedImage image (session .header))) in
+        let valid : opened (storedHeader (laid image) (session .header)) ≡ opened (storedHeader image (session .header)) =
+        ap opened (back-laid (session .header)) ∙ front-opened _ _ (front (storedHeader image (session .header))) in
         λ i. sameBytes (front-header image (laid image) (front image) i) (session .later) && isValid (valid i)
 
-    reverts-on : (next next' : After) → next' ≡ laidAfter next → reverting (laid image) session next' (opened (laid image)) ≡ laidAfter (reverting image session next (opened image))
-    reverts-on next next' n = ap (reverting (laid image) session next') (front-opened image (laid image) (front image)) ∙ by (opened image)
+    pub enters-back : enteredBack (laid image) session ≡ enteredBack image session
+    unfolding enteredBack
+    enters-back =
+        ap (λ (o : Opened). whileRevertible (laid image) session (whileIdle session o)) (front-opened image (laid image) (front image)) ∙ by (whileIdle session (opened image))
       where
-        by : (o : Opened) → reverting (laid image) session next' o ≡ laidAfter (reverting image session next o)
+        by : (o : Opened) → whileRevertible (laid image) session o ≡ whileRevertible image session o
         by (opening.Refused r) = refl
-        by (opening.Valid c) =
-            branch (session .begun) (session .begun) (unchanged image session SessionState)
-            (cond (revertible image (session .header) (session .later)) next (unchanged image session NothingToRevert)) _ _ refl refl
-            (branch (revertible image (session .header) (session .later)) (revertible (laid image) (session .header) (session .later)) next (unchanged image session NothingToRevert) _ _
-            goes-back n refl)
+        by (opening.Valid c) = λ i. cond (goes-back i) (opening.Valid c) (opening.Refused NothingToRevert)
+
+    reverts-on : (next next' : Container → After) → ((c : Container) → next' c ≡ laidAfter (next c))
+        → goesOn (laid image) session next' (enteredBack (laid image) session) ≡ laidAfter (goesOn image session next (enteredBack image session))
+    reverts-on next next' n = ap (goesOn (laid image) session next') enters-back ∙ goes next next' (enteredBack image session) (λ c e. n c)
 
     reverts : (form : Form) → OffSignature form p → revertedAs form (laidState (record { image = image; session = session })) ≡ laidAfter (revertedAs form (record { image = image; session = session }))
-    unfolding revert revertSigned revertedSigned
-    reverts Plain o = reverts-on _ _ (ap (λ (x : List ℕ). done x idle) (back-laid (session .header)))
+    unfolding revert revertSigned
+    reverts Plain o = reverts-on (revertOn image session) (revertOn (laid image) session) (λ c. ap (λ (x : List ℕ). done x idle) (back-laid (session .header)))
     reverts (Signed key signer) o =
-        reverts-on (revertBy image session key signer (signed image signer)) (revertBy (laid image) session key signer (signed (laid image) signer))
-        (ap (revertBy (laid image) session key signer) (same-signed image (laid image) (front image .size) (front-header image (laid image) (front image)) signer)
-        ∙ by (signed image signer))
+        let answer = signedHeader (session .header) signer in
+        reverts-on (revertBy image session key signer answer) (revertBy (laid image) session key signer answer) (by answer)
       where
-        by : (a : signing.Answer) → revertBy (laid image) session key signer a ≡ laidAfter (revertBy image session key signer a)
-        by (signing.Refused r) = refl
-        by (signing.Signs block) =
-            ap (λ (x : List ℕ). done x idle)
-            (signed-laid o (signature key signer (session .header)) (session .header) (length-signature key signer (session .header)))
+        by : (a : signing.Answer) (c : Container) → revertBy (laid image) session key signer a c ≡ laidAfter (revertBy image session key signer a c)
+        by (signing.Refused r) c = refl
+        by (signing.Signs block) c = ap (λ (x : List ℕ). done x idle) (signed-laid o key signer (session .header))
 
   -- ---- and those that only read
 
@@ -300,12 +294,10 @@ Alike a b = (b .outcome ≡ a .outcome) × (endingOf (a .outcome) ≡ Accepted �
 alike-same : (a b : After) → b ≡ a → Alike a b
 alike-same a b e = (λ i. e i .outcome, λ n. ap left e)
 
-alike-cond : (t t' : Bool) (a b a' b' : After) → t' ≡ t → Alike a a' → Alike b b' → Alike (cond t a b) (cond t' a' b')
-alike-cond t t' a b a' b' e p q = subst (λ (x : Bool). Alike (cond t a b) (cond x a' b')) (sym e) (by t)
-  where
-    by : (t : Bool) → Alike (cond t a b) (cond t a' b')
-    by true = p
-    by false = q
+alike-on : (image other : List ℕ) (session : Session) (next next' : Container → After) (o : Opened) → ((c : Container) → o ≡ opening.Valid c → Alike (next c) (next' c))
+    → Alike (goesOn image session next o) (goesOn other session next' o)
+alike-on image other session next next' (opening.Refused r) n = (refl, λ a. not-both a refl)
+alike-on image other session next next' (opening.Valid c) n = n c refl
 
 module _ (code : List ℕ) (n : length code ≤ 16) (image : List ℕ) (session : Session) (key : List ℕ) (signer : Signer) where
   abbrev other : List ℕ
@@ -320,50 +312,34 @@ module _ (code : List ℕ) (n : length code ≤ 16) (image : List ℕ) (session 
   signs : signed other signer ≡ signed image signer
   signs = same-signed image other (fronted .size) (front-header image other fronted) signer
 
-  over : (header : List ℕ) → storedSigned other (signature key signer header) header ≡ storedSigned image (signature key signer header) header
-  unfolding storedSigned
+  over : (header : List ℕ) → storedSigned other key signer header ≡ storedSigned image key signer header
+  unfolding storedSigned storedHeader
   over header = let m = length-signature key signer header in ap (λ (s : List ℕ). sets s 0x100 header) (sets-again (signature key signer header) code image 0 (omega arith))
 
   commit-renews : Alike (commitSigned image session key signer) (commitSigned other session key signer)
   unfolding commitSigned committedSigned
   commit-renews =
       subst (λ (a : After). Alike (commitSigned image session key signer) a)
-      (λ i. inSession other session (commitBy other session key signer (sym signs i)) (sym (front-opened image other fronted) i))
-      (by (opened image) refl)
+      (λ i. goesOn other session (commitBy other session key signer (sym signs i)) (sym (front-entered image other fronted session) i))
+      (alike-on image other session _ _ (entered image session) (λ c e. next c (guarantees image c (entered-is image session c e .0)) (signed image signer)))
     where
       next : (c : Container) → Guarantees image c → (a : signing.Answer) → Alike (commitBy image session key signer a c) (commitBy other session key signer a c)
       next c g (signing.Refused r) = (refl, λ e. not-both e refl)
       next c g (signing.Signs block) =
           let e : committedSigned c other key signer ≡ committedSigned c image key signer =
-          ap (λ (x : List ℕ). storedSigned other (signature key signer x) x) (header-laid 0 code small image session c g) ∙ over (headerCommitted c image) in
+          ap (storedSigned other key signer) (header-laid 0 code small image session c g) ∙ over (headerCommitted c image) in
           alike-same _ _ (λ i. done (e i) (remembering (front-header image other fronted i) (headerBytes (e i))))
 
-      by : (o : Opened) → opened image ≡ o
-          → Alike (inSession image session (commitBy image session key signer (signed image signer)) o) (inSession other session (commitBy other session key signer (signed image signer)) o)
-      by (opening.Refused r) e = (refl, λ a. not-both a refl)
-      by (opening.Valid c) e =
-          let g = guarantees image c e in
-          alike-cond (session .begun) (session .begun) _ _ _ _ refl
-          (alike-cond (current c image session) (current c other session) _ _ _ _ (front-current image other fronted c g session) (next c g (signed image signer)) (refl, λ a. not-both a refl))
-          (refl, λ a. not-both a refl)
-
   revert-renews : Alike (revertSigned image session key signer) (revertSigned other session key signer)
-  unfolding revertSigned revertedSigned
+  unfolding revertSigned
   revert-renews =
       subst (λ (a : After). Alike (revertSigned image session key signer) a)
-      (λ i. reverting other session (revertBy other session key signer (sym signs i)) (sym (front-opened image other fronted) i))
-      (by (opened image))
+      (λ i. goesOn other session (revertBy other session key signer (signedHeader (session .header) signer)) (sym (enters-back 0 code small image session) i))
+      (alike-on image other session _ _ (enteredBack image session) (λ c e. next c (signedHeader (session .header) signer)))
     where
-      next : (a : signing.Answer) → Alike (revertBy image session key signer a) (revertBy other session key signer a)
-      next (signing.Refused r) = (refl, λ e. not-both e refl)
-      next (signing.Signs block) = alike-same _ _ (ap (λ (x : List ℕ). done x idle) (over (session .header)))
-
-      by : (o : Opened) → Alike (reverting image session (revertBy image session key signer (signed image signer)) o) (reverting other session (revertBy other session key signer (signed image signer)) o)
-      by (opening.Refused r) = (refl, λ a. not-both a refl)
-      by (opening.Valid c) =
-          alike-cond (session .begun) (session .begun) _ _ _ _ refl (refl, λ a. not-both a refl)
-          (alike-cond (revertible image (session .header) (session .later)) (revertible other (session .header) (session .later)) _ _ _ _
-          (goes-back 0 code small image session) (next (signed image signer)) (refl, λ a. not-both a refl))
+      next : (c : Container) (a : signing.Answer) → Alike (revertBy image session key signer a c) (revertBy other session key signer a c)
+      next c (signing.Refused r) = (refl, λ e. not-both e refl)
+      next c (signing.Signs block) = alike-same _ _ (ap (λ (x : List ℕ). done x idle) (over (session .header)))
 
 -- ---- what no call stores to
 
@@ -387,10 +363,10 @@ call-spares (Commit (Signed key signer)) st i (a, b) =
     unit (Signed key signer) st .bytes i (elim [ inl (x, y) ↦ omega arith | inr (x, y) ↦ omega arith ])
 call-spares Abandon st i h = refl
 
-back-out : (form : Form) (image former : List ℕ) (i : ℕ) → InRange (ignored form) i → getD (backImage form image former) i 0 ≡ getD image i 0
-unfolding revertedImage revertedSigned storedSigned
-back-out Plain image former i (a, b) = sets-out image 0x100 former i (inl (omega arith))
-back-out (Signed key signer) image former i (a, b) =
+stored-out : (form : Form) (image former : List ℕ) (i : ℕ) → InRange (ignored form) i → getD (storedAs form image former) i 0 ≡ getD image i 0
+unfolding storedHeader storedSigned
+stored-out Plain image former i (a, b) = sets-out image 0x100 former i (inl (omega arith))
+stored-out (Signed key signer) image former i (a, b) =
     let n = length-signature key signer former in
     sets-out (sets image 0 (signature key signer former)) 0x100 former i (inl (omega arith)) ∙ sets-out image 0 (signature key signer former) i (inr (omega arith))
 
@@ -398,7 +374,7 @@ revert-spares : (form : Form) (st : State) (i : ℕ) → InRange (ignored form) 
 revert-spares form st i h = by (ruledRevert form st) refl
   where
     by : (r : Ruling) → ruledRevert form st ≡ r → getD (nextRevert form st .image) i 0 ≡ getD (st .image) i 0
-    by Accepted e = ap (λ (a : After). getD (a .image) i 0) (reverted-by form st e .after) ∙ back-out form (st .image) (st .session .header) i h
+    by Accepted e = ap (λ (a : After). getD (a .image) i 0) (reverted-by form st e .after) ∙ stored-out form (st .image) (st .session .header) i h
     by Refused e = ap (λ (s : State). getD (s .image) i 0) (refused form st e)
     by Dropped e = absurd (lasts form st e)
 

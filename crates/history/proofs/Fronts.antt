@@ -42,7 +42,8 @@ use Rattle.steps.specs.declared.Verdict.the-variants as verdict
 use Rattle.steps.specs.declared.Count.the-variants as count
 use Rattle.steps.specs.Reading.{readFrom, readOutcome, verdictOn, countIn}
 use Rattle.steps.specs.Sessions.{selectorFlipped, forEach, stagedTable, inSomeMaster, allBelow, tableStaged, current}
-use Rattle.steps.specs.Calls.{unread, readIn, readCommitted, readStagedIn, readStaged, verifiedIn, isVerified, countVerifiedIn, countVerified}
+use Rattle.steps.specs.Calls.{whileBegun, entered, unread, readIn, readCommitted, readStaged, verifiedIn, isVerified, countVerifiedIn, countVerified}
+use Rattle.steps.proofs.EnterLaws.{entered-is}
 use Rattle.faults.specs.declared.Fault.{Fault}
 use Rattle.faults.specs.Faults.{faultsOf, faultsIn, faults, countFaultsIn, countFaults}
 use Rattle.faults.proofs.LevelLaws.{faults-cong}
@@ -172,6 +173,15 @@ module _ (image left : List ℕ) (k : Fronted image left) where
         λ j. sameBytes (front-header j) (session .header)
         && allBelow (inactive (c .header) .size) (λ (i : ℕ). inSomeMaster c i || eqb (past (inactive (c .header) .offset + i) (omega arith) j) (getD (front-table j) i 0))
 
+  -- so a session enters it alike
+  pub front-entered : (session : Session) → entered left session ≡ entered image session
+  unfolding entered
+  front-entered session = ap (whileBegun left session) front-opened ∙ by (opened image) refl
+    where
+      by : (o : Opened) → opened image ≡ o → whileBegun left session o ≡ whileBegun image session o
+      by (opening.Refused r) e = refl
+      by (opening.Valid c) e = λ i. cond (session .begun) (cond (front-current c (guarantees image c e) session i) (opening.Valid c) (opening.Refused Stale)) (opening.Refused SessionState)
+
   -- ---- so whatever only reads answers alike
 
   -- what asks for a partition that is there
@@ -183,11 +193,11 @@ module _ (image left : List ℕ) (k : Fronted image left) where
       by false h = refl
 
   module _ (q : ℕ) where
-    read : (x : ℕ) (buffer : List ℕ) (o : Opened) → opened image ≡ o → readIn left q x buffer o ≡ readIn image q x buffer o
-    read x buffer (opening.Refused r) e = refl
-    read x buffer (opening.Valid c) e =
-        if-there (partitions c) q _ _ (unread buffer NoPartition)
-        (λ h. front-read (committedView c q) (committed-past image c (guarantees image c e) q h) x buffer)
+    read : (view : Container → ℕ → View) → ((c : Container) → Guarantees image c → q < partitions c → Past (view c q)) → (x : ℕ) (buffer : List ℕ) (o : Opened)
+        → ((c : Container) → o ≡ opening.Valid c → opened image ≡ opening.Valid c) → readIn view left q x buffer o ≡ readIn view image q x buffer o
+    read view past x buffer (opening.Refused r) e = refl
+    read view past x buffer (opening.Valid c) e =
+        if-there (partitions c) q _ _ (unread buffer NoPartition) (λ h. front-read (view c q) (past c (guarantees image c (e c refl)) h) x buffer)
 
     questions : (b : ℕ) (o : Opened) → opened image ≡ o → verifiedIn left q b o ≡ verifiedIn image q b o
     unfolding verdictOn
@@ -203,19 +213,11 @@ module _ (image left : List ℕ) (k : Fronted image left) where
         if-there (partitions c) q _ _ (count.Refused NoPartition)
         (λ h. rw (front-seen (committedView c q) (committed-past image c (guarantees image c e) q h)))
 
-    staged : (session : Session) (x : ℕ) (buffer : List ℕ) (o : Opened) → opened image ≡ o → readStagedIn left session q x buffer o ≡ readStagedIn image session q x buffer o
-    staged session x buffer (opening.Refused r) e = refl
-    staged session x buffer (opening.Valid c) e =
-        let g = guarantees image c e in
-        λ i. cond (session .begun)
-        (cond (front-current c g session i)
-        (if-there (partitions c) q _ _ (unread buffer NoPartition) (λ h. front-read (stagedView c q) (staged-past image c g q h) x buffer) i)
-        (unread buffer Stale))
-        (unread buffer SessionState)
-
   pub front-staged : (session : Session) (q x : ℕ) (buffer : List ℕ) → readStaged left session q x buffer ≡ readStaged image session q x buffer
   unfolding readStaged
-  front-staged session q x buffer = ap (readStagedIn left session q x buffer) front-opened ∙ staged q session x buffer (opened image) refl
+  front-staged session q x buffer =
+      ap (readIn stagedView left q x buffer) (front-entered session)
+      ∙ read q stagedView (λ c g h. staged-past image c g q h) x buffer (entered image session) (λ c e. entered-is image session c e .0)
 
   same-faults : (c : Container) → opened image ≡ opening.Valid c → faultsOf c left ≡ faultsOf c image
   same-faults c o =
@@ -249,7 +251,7 @@ module _ (image left : List ℕ) (k : Fronted image left) where
   unfolding readCommitted isVerified countVerified countFaults faults listNames findFile
   front-answers = record {
     opening = front-opened;
-    reads = λ q x buffer. ap (readIn left q x buffer) front-opened ∙ read q x buffer (opened image) refl;
+    reads = λ q x buffer. ap (readIn committedView left q x buffer) front-opened ∙ read q committedView (λ c g h. committed-past image c g q h) x buffer (opened image) (λ c e. e);
     questions = λ q b. ap (verifiedIn left q b) front-opened ∙ questions q b (opened image) refl;
     counts = λ q. ap (countVerifiedIn left q) front-opened ∙ counts q (opened image) refl;
     faultCount = ap (countFaultsIn left) front-opened ∙ fault-count (opened image) refl;

@@ -1,25 +1,23 @@
 -- Power failure where level 4 may be external, from the frame: what an image that is left answers. Assumes nothing.
 use mathlib.Core.Path.{_≡_, refl, sym, ap, _∙_, subst}
-use mathlib.Core.Bool.{Bool, true, false, not, _&&_, cond}
+use mathlib.Core.Bool.{Bool, true, false, cond}
 use mathlib.Core.List.{List, [], _∷_}
-use mathlib.Core.Logic.{_⊎_, inl, inr}
-use mathlib.Core.Option.{Option, some}
+use mathlib.Core.Logic.{_⊎_, inl, inr, _↔_}
+use mathlib.Core.Option.{some}
 use Prim.Native.Nat.{ℕ, zero, suc, _+_, _≤_, _<_}
 use native.Mathlib.Omega.{arith}
-use native.Mathlib.Nat.{add-zero}
-use lib.ListN.{length, getD, take, drop}
-use lib.Seq.{ext-getD}
-use lib.Dec.{leb, ltb}
-use borrow.Author.Tests.{ltb-true, leb-true}
+use lib.ListN.{length}
+use lib.Dec.{ltb}
+use borrow.Author.Tests.{ltb-true}
 use Rattle.number.specs.declared.Level.{Level}
 use Rattle.number.specs.Ranges.{Apart}
 use Rattle.number.specs.Blocks.{blocks, blockOf, touches}
 use Rattle.number.specs.Bytes.{bytes}
-use Rattle.number.proofs.ListLaws.{part-same, length-bytes, getD-bytes}
-use Rattle.number.proofs.BlockLaws.{block-exists, touches-byte}
+use Rattle.number.proofs.ListLaws.{length-bytes, getD-bytes}
+use Rattle.number.proofs.BlockLaws.{touches-byte}
 use Rattle.layout.specs.declared.Container.{Container}
 use Rattle.layout.specs.declared.Opened.the-variants as opening
-use Rattle.layout.specs.declared.Refusal.the-variants.{NoPartition, OutOfRange}
+use Rattle.layout.specs.declared.Refusal.the-variants.{NoPartition}
 use Rattle.layout.specs.Opening.{opened}
 use Rattle.layout.specs.Guarantees.{Guarantees}
 use Rattle.layout.proofs.GuaranteeLaws.{guarantees}
@@ -32,72 +30,27 @@ use Rattle.views.specs.Places.{partitions, slotOf, partitionOf, viewIn, committ
 use Rattle.views.specs.Protected.{ExternalByte}
 use Rattle.steps.specs.declared.Verdict.the-variants as verdict
 use Rattle.steps.specs.declared.Count.the-variants as count
-use Rattle.steps.specs.Reading.{readFrom, verdictOn, countIn, said}
+use Rattle.steps.specs.Reading.{readFrom, verdictOn, countIn}
 use Rattle.steps.specs.Calls.{unread, readIn, readCommitted, verifiedIn, isVerified, countVerifiedIn, countVerified}
-use Rattle.history.specs.Model.{lowest, handed, readOf, judgedOf, countTrue, Form, Plain, Signed, Event}
+use Rattle.history.specs.Model.{readOf, judgedOf, countTrue, Form, Plain, Signed, Event}
 use Rattle.views.specs.Versions.{Version, versionOf}
 use Rattle.history.specs.Run.{openedAs}
 use Rattle.faults.specs.declared.Fault.{Fault}
 use Rattle.faults.specs.Faults.{faultsOf, faultsIn, faults, countFaultsIn, countFaults}
+use Rattle.faults.specs.Laws.{Listed, IsBlock}
 use Rattle.faults.proofs.LevelLaws.{faults-cong}
+use Rattle.faults.proofs.LawsHold.{listed-is}
 use Rattle.save.specs.Calls.{holdsSave}
 use Rattle.save.proofs.CallLaws.{holds-one, holds-internal}
 use Rattle.history.proofs.NameLaws.{names-same, file-same}
-use Rattle.history.specs.External.{storedBy, InPlace, InPlaceBy, InPlaceOf, LeftBut, TouchedBy, TouchedOf, Untouched, SameAnswersBut, InPlaceTheorem, OneShape, AlikeIn}
+use Rattle.history.specs.External.{storedBy, InPlace, InPlaceBy, InPlaceOf, TouchedBy, TouchedOf, Untouched, SameAnswersBut, InPlaceTheorem, OneShape, AlikeIn}
+use Rattle.history.proofs.Agreeing.{LeftBut, agrees-left}
+use Rattle.history.proofs.Alike.{Sized, committed-sized, view-level, same-of-alike, read-alike, judged-alike}
 use Rattle.history.proofs.VersionLaws.{read-version, judged-version, count-version}
 use Rattle.views.proofs.FlagLaws.{length-flags, getD-flags}
 use Rattle.views.proofs.ProtectedLaws.{never-both, same-or-apart, external-inside}
 use Rattle.history.proofs.Outers.{Outer, front-stays, header-stays, still-opens, internal-stays, entries-stay, byte-stays, hash-stays, block-stays}
 use Rattle.history.proofs.Signing.{same-signed, same-signature}
-
--- ---- versions that are alike in the blocks that a read touches
-
-lowest-alike : (T : ℕ → Bool) (b : ℕ) (l m : List Bool) → length l ≡ length m → ((k : ℕ) → T (b + k) ≡ true → getD l k false ≡ getD m k false)
-    → lowest T b l ≡ lowest T b m
-unfolding lowest
-lowest-alike T b [] [] n h = refl
-lowest-alike T b [] (y ∷ m) n h = absurd (omega arith)
-lowest-alike T b (x ∷ l) [] n h = absurd (omega arith)
-lowest-alike T b (x ∷ l) (y ∷ m) n h =
-    by (lowest-alike T (suc b) l m (omega arith) (λ k t. let e : suc b + k ≡ b + suc k = omega arith in h (suc k) (ap T (sym e) ∙ t))) (T b) refl
-  where
-    by : lowest T (suc b) l ≡ lowest T (suc b) m → (t : Bool) → T b ≡ t
-        → cond (t && not x) (some b) (lowest T (suc b) l) ≡ cond (t && not y) (some b) (lowest T (suc b) m)
-    by rest false e = rest
-    by rest true e =
-        let q : x ≡ y = h 0 (ap T (add-zero b) ∙ e) in
-        ap (λ (z : Bool). cond (not z) (some b) (lowest T (suc b) l)) q ∙ ap (λ (o : Option ℕ). cond (not y) (some b) o) rest
-
-module _ (v w : Version) (shape : OneShape v w) where
-  pub read-alike : (place : ℕ) (buffer : List ℕ) → ((b : ℕ) → touches (w .level) place (length buffer) b ≡ true → AlikeIn b v w) → readOf v place buffer ≡ readOf w place buffer
-  unfolding readOf
-  read-alike place buffer h =
-      ap (λ (n : ℕ). cond (leb (place + length buffer) n) (handed (take (length buffer) (drop place (v .bytes))) buffer (lowest (touches (v .level) place (length buffer)) 0 (v .verified))) (unread buffer OutOfRange)) (shape .sizes)
-      ∙ by (leb (place + length buffer) (length (w .bytes))) refl
-    where
-      lows : lowest (touches (v .level) place (length buffer)) 0 (v .verified) ≡ lowest (touches (w .level) place (length buffer)) 0 (w .verified)
-      lows =
-          ap (λ (l : Level). lowest (touches l place (length buffer)) 0 (v .verified)) (shape .level)
-          ∙ lowest-alike (touches (w .level) place (length buffer)) 0 (v .verified) (w .verified) (shape .counts)
-          (λ k t. let n : 0 + k ≡ k = omega arith in h k (ap (touches (w .level) place (length buffer)) (sym n) ∙ t) .verified)
-
-      by : (t : Bool) → leb (place + length buffer) (length (w .bytes)) ≡ t
-          → cond t (handed (take (length buffer) (drop place (v .bytes))) buffer (lowest (touches (v .level) place (length buffer)) 0 (v .verified))) (unread buffer OutOfRange)
-          ≡ cond t (handed (take (length buffer) (drop place (w .bytes))) buffer (lowest (touches (w .level) place (length buffer)) 0 (w .verified))) (unread buffer OutOfRange)
-      by false e = refl
-      by true e =
-          let fits = leb-true (place + length buffer) (length (w .bytes)) e in
-          let same : take (length buffer) (drop place (v .bytes)) ≡ take (length buffer) (drop place (w .bytes)) =
-          part-same (v .bytes) (w .bytes) place (length buffer) (shape .sizes)
-          (λ y a d. h (blockOf (w .level) y) (touches-byte (w .level) place (length buffer) (blockOf (w .level) y) .1 (y, a, d, refl)) .bytes y (omega arith) refl) in
-          ap (λ (x : List ℕ). handed x buffer (lowest (touches (v .level) place (length buffer)) 0 (v .verified))) same
-          ∙ ap (handed (take (length buffer) (drop place (w .bytes))) buffer) lows
-
-  pub judged-alike : (b : ℕ) → AlikeIn b v w → judgedOf v b ≡ judgedOf w b
-  unfolding judgedOf
-  judged-alike b a =
-      ap (λ (n : ℕ). cond (ltb b n) (said (getD (v .verified) b false)) (verdict.Refused OutOfRange)) (shape .counts)
-      ∙ ap (λ (x : Bool). cond (ltb b (length (w .verified))) (said x) (verdict.Refused OutOfRange)) (a .verified)
 
 -- ---- the bytes that a list put in place
 
@@ -170,21 +123,6 @@ module _ (image left : List ℕ) (c : Container) (list : List Event) (o : opened
     off b u y l e t w =
         u t (subst (TouchedOf q (partitionOf c q .ivfc .level4) list) e (touched-of image c g q h t y l list w))
 
-    touched-there : (place n b : ℕ) → touches (old .level) place n b ≡ true → touches (partitionOf c q .ivfc .level4) place n b ≡ true
-    unfolding versionOf committedView viewIn
-    touched-there place n b t = t
-
-    exists : (b : ℕ) → b < length (old .verified) → b < blocks (committedView c q .level4)
-    unfolding versionOf
-    exists b l = rw (length-flags (verified (committedView c q) image 4) 0 (blocks (committedView c q .level4))) at l
-
-    inside : (place n b : ℕ) → place + n ≤ length (old .bytes) → touches (old .level) place n b ≡ true → b < blocks (committedView c q .level4)
-    unfolding versionOf
-    inside place n b fits t =
-        let z : length (old .bytes) ≡ committedView c q .level4 .size = length-bytes (contentOf (committedView c q) image 4) 0 (committedView c q .level4 .size) in
-        let (y, a, d, e) = touches-byte (committedView c q .level4) place n b .0 t in
-        subst (λ (x : ℕ). x < blocks (committedView c q .level4)) e (block-exists (committedView c q .level4) y (omega arith))
-
     pub alike : (b : ℕ) → b < blocks (committedView c q .level4) → Untouched c list q b → AlikeIn b new old
     unfolding versionOf
     alike b m u = record {
@@ -201,48 +139,44 @@ module _ (image left : List ℕ) (c : Container) (list : List Event) (o : opened
           ∙ sym (getD-flags (verified (committedView c q) image 4) 0 (blocks (committedView c q .level4)) b m ∙ ap (verified (committedView c q) image 4) n);
     }
 
-    -- a read past the end is 9 in both; else each block that it touches is one of level 4
+    sized : Sized new (partitionOf c q .ivfc .level4)
+    sized = committed-sized left c q
+
+    within : (b : ℕ) → Untouched c list q b → b < blocks (partitionOf c q .ivfc .level4) → AlikeIn b new old
+    within b u m = alike b (subst (λ (l : Level). b < blocks l) (sym (view-level c q)) m) u
+
     read-within : (place : ℕ) (buffer : List ℕ) → ((b : ℕ) → touches (partitionOf c q .ivfc .level4) place (length buffer) b ≡ true → Untouched c list q b)
         → readOf new place buffer ≡ readOf old place buffer
-    unfolding readOf
-    read-within place buffer u = by (leb (place + length buffer) (length (old .bytes))) refl
-      where
-        by : (t : Bool) → leb (place + length buffer) (length (old .bytes)) ≡ t → readOf new place buffer ≡ readOf old place buffer
-        by false e =
-            ap (λ (x : Bool). cond x (handed (take (length buffer) (drop place (new .bytes))) buffer (lowest (touches (new .level) place (length buffer)) 0 (new .verified))) (unread buffer OutOfRange))
-            (ap (leb (place + length buffer)) (shape .sizes) ∙ e)
-            ∙ sym (ap (λ (x : Bool). cond x (handed (take (length buffer) (drop place (old .bytes))) buffer (lowest (touches (old .level) place (length buffer)) 0 (old .verified))) (unread buffer OutOfRange)) e)
-        by true e =
-            let fits = leb-true (place + length buffer) (length (old .bytes)) e in
-            read-alike new old shape place buffer (λ b t. alike b (inside place (length buffer) b fits t) (u b (touched-there place (length buffer) b t)))
+    read-within place buffer u = read-alike new old (partitionOf c q .ivfc .level4) shape sized place buffer (λ b m t. within b (u b t) m)
 
     judged-within : (b : ℕ) → Untouched c list q b → judgedOf new b ≡ judgedOf old b
-    unfolding judgedOf
-    judged-within b u = by (ltb b (length (old .verified))) refl
-      where
-        by : (t : Bool) → ltb b (length (old .verified)) ≡ t → judgedOf new b ≡ judgedOf old b
-        by false e =
-            ap (λ (x : Bool). cond x (said (getD (new .verified) b false)) (verdict.Refused OutOfRange)) (ap (ltb b) (shape .counts) ∙ e)
-            ∙ sym (ap (λ (x : Bool). cond x (said (getD (old .verified) b false)) (verdict.Refused OutOfRange)) e)
-        by true e = judged-alike new old shape b (alike b (exists b (ltb-true b (length (old .verified)) e)) u)
+    judged-within b u = judged-alike new old (partitionOf c q .ivfc .level4) shape sized b (within b u)
 
     count-within : ((b : ℕ) → Untouched c list q b) → countTrue (new .verified) ≡ countTrue (old .verified)
-    count-within u = ap countTrue (ext-getD false (new .verified) (old .verified) (shape .counts)
-        (λ b l. alike b (exists b (rw (← shape .counts) l)) (u b) .verified))
+    count-within u = ap (λ (v : Version). countTrue (v .verified)) (same-of-alike new old (partitionOf c q .ivfc .level4) shape sized (λ b. within b (u b)))
 
-    -- where the list wrote to none of them in place, each block of each level is verified exactly if it was
-    verified-within : ((b : ℕ) → Untouched c list q b) → (i b : ℕ) → i ≤ 4 → b < blocks (levelOf (committedView c q) i)
+    -- each block of a hash level is verified exactly if it was, and so is each of level 4 that the list did not write to in place
+    verified-within : (i b : ℕ) → (i ≡ 4 → Untouched c list q b) → i ≤ 4 → b < blocks (levelOf (committedView c q) i)
         → verified (committedView c q) left i b ≡ verified (committedView c q) image i b
     unfolding levelOf
-    verified-within u zero b m l = hash-stays image left c g W (in-place-outer c list) k q h zero b (omega arith) l
-    verified-within u (suc zero) b m l = hash-stays image left c g W (in-place-outer c list) k q h 1 b (omega arith) l
-    verified-within u (suc (suc zero)) b m l = hash-stays image left c g W (in-place-outer c list) k q h 2 b (omega arith) l
-    verified-within u (suc (suc (suc zero))) b m l = hash-stays image left c g W (in-place-outer c list) k q h 3 b (omega arith) l
-    verified-within u (suc (suc (suc (suc zero)))) b m l = block-stays image left c g W (in-place-outer c list) k q h b l (off b (u b))
-    verified-within u (suc (suc (suc (suc (suc i))))) b m l = absurd (omega arith)
+    verified-within zero b u m l = hash-stays image left c g W (in-place-outer c list) k q h zero b (omega arith) l
+    verified-within (suc zero) b u m l = hash-stays image left c g W (in-place-outer c list) k q h 1 b (omega arith) l
+    verified-within (suc (suc zero)) b u m l = hash-stays image left c g W (in-place-outer c list) k q h 2 b (omega arith) l
+    verified-within (suc (suc (suc zero))) b u m l = hash-stays image left c g W (in-place-outer c list) k q h 3 b (omega arith) l
+    verified-within (suc (suc (suc (suc zero)))) b u m l = block-stays image left c g W (in-place-outer c list) k q h b l (off b (u refl))
+    verified-within (suc (suc (suc (suc (suc i))))) b u m l = absurd (omega arith)
 
   same-faults : ((q b : ℕ) → Untouched c list q b) → faultsOf c left ≡ faultsOf c image
-  same-faults u = faults-cong c left image (λ q i b h m l. verified-within q h (u q) i b m l)
+  same-faults u = faults-cong c left image (λ q i b h m l. verified-within q h i b (λ _. u q b) m l)
+
+  same-fault : (f : Fault) → (f .level ≡ 4 → Untouched c list (f .partition) (f .block)) → Listed f (faults left) ↔ Listed f (faults image)
+  same-fault f u = (
+    λ x. let (b, e) = listed-is left c o' f .0 x in listed-is image c o f .1 (b, sym (same b) ∙ e),
+    λ x. let (b, e) = listed-is image c o f .0 x in listed-is left c o' f .1 (b, same b ∙ e),
+  )
+    where
+      same : IsBlock c f → verified (committedView c (f .partition)) left (f .level) (f .block) ≡ verified (committedView c (f .partition)) image (f .level) (f .block)
+      same (h, _, m, l) = verified-within (f .partition) h (f .level) (f .block) u m l
 
   -- a save's level 4 is internal
   same-save : holdsSave c ≡ true → versionOf (committedView c 0) left ≡ versionOf (committedView c 0) image
@@ -254,9 +188,10 @@ module _ (image left : List ℕ) (c : Container) (list : List Event) (o : opened
   unfolding readCommitted isVerified countVerified countFaults faults
   answers = record {
     opening = same-opened;
-    reads = λ q place buffer u. ap (readIn left q place buffer) o' ∙ reads q place buffer u (ltb q (partitions c)) refl ∙ sym (ap (readIn image q place buffer) o);
+    reads = λ q place buffer u. ap (readIn committedView left q place buffer) o' ∙ reads q place buffer u (ltb q (partitions c)) refl ∙ sym (ap (readIn committedView image q place buffer) o);
     questions = λ q b u. ap (verifiedIn left q b) o' ∙ questions q b u (ltb q (partitions c)) refl ∙ sym (ap (verifiedIn image q b) o);
     counts = λ q u. ap (countVerifiedIn left q) o' ∙ counts q u (ltb q (partitions c)) refl ∙ sym (ap (countVerifiedIn image q) o);
+    faulty = same-fault;
     faultCount = λ u. ap (countFaultsIn left) o' ∙ ap (λ (l : List Fault). count.Blocks (length l)) (same-faults u) ∙ sym (ap (countFaultsIn image) o);
     faultList = λ u. ap (faultsIn left) o' ∙ same-faults u ∙ sym (ap (faultsIn image) o);
     signing = same-signed image left (k .size) header;
@@ -303,4 +238,4 @@ module _ (image left : List ℕ) (c : Container) (list : List Event) (o : opened
   entries q h = entries-stay image left c g W (in-place-outer c list) k q h
 
 pub in-place-theorem : InPlaceTheorem
-in-place-theorem = record { entries = λ image left c list o k. entries image left c list o k }
+in-place-theorem = record { entries = λ image left c list o a. entries image left c list o (agrees-left (InPlaceOf c list) image left c o a) }

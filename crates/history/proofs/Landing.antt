@@ -24,9 +24,9 @@ use Rattle.steps.specs.Calls.{readCommitted}
 use Rattle.history.specs.Model.{laidOver, lowest, readOf, Form, Call, Ask, Begin, Write, Commit, Abandon, Ruling, Accepted, Refused, Dropped, Event, Did, Model, advance, followed}
 use Rattle.views.specs.Versions.{Version, versionOf}
 use Rattle.history.specs.Run.{State, perform, ruled, next, after, events, beginOf, begins, commitOf, commits, Put, putBy, valueAt, later, lastValue}
-use Rattle.history.specs.Theorem.{levelIn, byteIn, verifiedIn, Landed}
+use Rattle.history.specs.Theorem.{byteIn, verifiedIn, Landed}
 use Rattle.history.proofs.VersionLaws.{never}
-use Rattle.history.specs.External.{There, committedOf}
+use Rattle.history.specs.External.{There, committedOf, levelOfThere}
 use Rattle.history.proofs.ReadLaws.{read-committed}
 use Rattle.history.proofs.CallCases.{not-both, not-dropped, lasts, refused, idles, idle-after}
 use Rattle.history.proofs.LaidLaws.{putOver, laid, later-some, value-in, laid-bytes, laid-level, laid-written, laid-others}
@@ -204,20 +204,23 @@ read-byte v i any h e =
 
 -- a version against the one that the writes are laid over, each that of a view
 module _ (p : ℕ) (es : List Event) (first last : List ℕ) (old : There first p) (new : There last p)
-    (is : committedOf new ≡ laid p es (committedOf old)) (within : (i x : ℕ) → lastValue p i es ≡ some x → i < levelIn old .size) where
-  same-level : levelIn new ≡ levelIn old
+    (is : committedOf new ≡ laid p es (committedOf old)) (within : (i x : ℕ) → lastValue p i es ≡ some x → i < levelOfThere old .size) where
+  same-level : levelOfThere new ≡ levelOfThere old
+  unfolding committedView viewIn
   same-level =
       sym (version-level (committedView (new .container) p) last) ∙ ap (λ (v : Version). v .level) is
       ∙ laid-level p es (committedOf old) ∙ version-level (committedView (old .container) p) first
 
-  byte-of : (i : ℕ) → i < levelIn old .size → byteIn new i ≡ Option·getD (lastValue p i es) (byteIn old i)
+  byte-of : (i : ℕ) → i < levelOfThere old .size → byteIn new i ≡ Option·getD (lastValue p i es) (byteIn old i)
+  unfolding committedView viewIn
   byte-of i h =
       sym (version-byte (committedView (new .container) p) last i (subst (λ (l : Level). i < l .size) (sym same-level) h))
       ∙ ap (λ (v : Version). getD (v .bytes) i 0) is
       ∙ laid-bytes p es (committedOf old) i (rw (version-size (committedView (old .container) p) first) h)
       ∙ ap (Option·getD (lastValue p i es)) (version-byte (committedView (old .container) p) first i h)
 
-  flag-of : (b : ℕ) → b < blocks (levelIn old) → verifiedIn new b ≡ getD (laid p es (committedOf old) .verified) b false
+  flag-of : (b : ℕ) → b < blocks (levelOfThere old) → verifiedIn new b ≡ getD (laid p es (committedOf old) .verified) b false
+  unfolding committedView viewIn
   flag-of b h =
       sym (version-flag (committedView (new .container) p) last b (subst (λ (l : Level). b < blocks l) (sym same-level) h))
       ∙ ap (λ (v : Version). getD (v .verified) b false) is
@@ -225,25 +228,28 @@ module _ (p : ℕ) (es : List Event) (first last : List ℕ) (old : There first 
   written-of : (i x : ℕ) → lastValue p i es ≡ some x → byteIn new i ≡ x
   written-of i x e = byte-of i (within i x e) ∙ ap (λ (o : Option ℕ). Option·getD o (byteIn old i)) e
 
-  verifies-of : (i x : ℕ) → lastValue p i es ≡ some x → verifiedIn new (blockOf (levelIn old) i) ≡ true
+  verifies-of : (i x : ℕ) → lastValue p i es ≡ some x → verifiedIn new (blockOf (levelOfThere old) i) ≡ true
+  unfolding committedView viewIn
   verifies-of i x e =
-      let there : blockOf (levelIn old) i < blocks (levelIn old) = block-exists (levelIn old) i (within i x e) in
-      flag-of (blockOf (levelIn old) i) there
-      ∙ laid-written p es (committedOf old) (levelIn old) i x (version-level (committedView (old .container) p) first)
+      let there : blockOf (levelOfThere old) i < blocks (levelOfThere old) = block-exists (levelOfThere old) i (within i x e) in
+      flag-of (blockOf (levelOfThere old) i) there
+      ∙ laid-written p es (committedOf old) (levelOfThere old) i x (version-level (committedView (old .container) p) first)
       (rw (version-count (committedView (old .container) p) first) there) e
 
   reads-of : (i x any : ℕ) → lastValue p i es ≡ some x → readCommitted last p i (any ∷ []) ≡ record { outcome = outcome.Accepted; buffer = x ∷ [] }
+  unfolding committedView viewIn
   reads-of i x any e =
       let view = committedView (new .container) p in
-      let inside : i < levelIn new .size = subst (λ (l : Level). i < l .size) (sym same-level) (within i x e) in
-      let there : blockOf (levelIn new) i < blocks (levelIn new) = block-exists (levelIn new) i inside in
+      let inside : i < levelOfThere new .size = subst (λ (l : Level). i < l .size) (sym same-level) (within i x e) in
+      let there : blockOf (levelOfThere new) i < blocks (levelOfThere new) = block-exists (levelOfThere new) i inside in
       read-committed last (new .container) (new .opens) p (new .there) i (any ∷ [])
       ∙ read-byte (committedOf new) i any (rw (version-size view last) inside)
       (ap (λ (l : Level). getD (committedOf new .verified) (blockOf l i) false) (version-level view last)
-      ∙ version-flag view last (blockOf (levelIn new) i) there ∙ ap (λ (l : Level). verifiedIn new (blockOf l i)) same-level ∙ verifies-of i x e)
+      ∙ version-flag view last (blockOf (levelOfThere new) i) there ∙ ap (λ (l : Level). verifiedIn new (blockOf l i)) same-level ∙ verifies-of i x e)
       ∙ ap (λ (y : ℕ). record { outcome = outcome.Accepted; buffer = y ∷ [] }) (version-byte view last i inside ∙ written-of i x e)
 
   pub landed-of : Landed p es first last old
+  unfolding committedView viewIn
   landed-of = record {
     new = new;
     level = same-level;
@@ -253,7 +259,7 @@ module _ (p : ℕ) (es : List Event) (first last : List ℕ) (old : There first 
     reads = reads-of;
     others = λ i h e. byte-of i h ∙ ap (λ (o : Option ℕ). Option·getD o (byteIn old i)) e;
     otherBlocks = λ b h e. flag-of b h
-        ∙ laid-others p es (committedOf old) (levelIn old) b (version-level (committedView (old .container) p) first)
+        ∙ laid-others p es (committedOf old) (levelOfThere old) b (version-level (committedView (old .container) p) first)
         (rw (version-count (committedView (old .container) p) first) h) e
         ∙ version-flag (committedView (old .container) p) first b h;
   }

@@ -1,8 +1,12 @@
 pub mod VersionLaws
 pub mod ReadLaws
 pub mod NameLaws
+pub mod Stored
 pub mod CallCases
+pub mod Agreeing
 pub mod CallLaws
+pub mod Currents
+pub mod Mirroring
 pub mod Following
 pub mod Crashing
 pub mod LaidLaws
@@ -10,7 +14,6 @@ pub mod Landing
 pub mod Progress
 pub mod Signing
 pub mod Seen
-pub mod Frames
 pub mod Tables
 pub mod Flips
 pub mod Begins
@@ -21,6 +24,7 @@ pub mod Calls
 pub mod Demand
 pub mod ReadBack
 pub mod Outers
+pub mod Alike
 pub mod InPlace
 pub mod Eithers
 pub mod Fronts

@@ -1,7 +1,7 @@
--- An image that differs from another in free bytes and in bytes of external level 4s only: it opens alike, with the same header and free bytes, the same
--- committed views of internal partitions, and the same committed hash levels of every one; its blocks without such a byte are as they were. Assumes
--- nothing.
-use mathlib.Core.Path.{_≡_, refl, sym, _∙_, subst}
+-- An image that differs from another in free bytes and in some bytes of external level 4s only: it opens alike, with the same header and free bytes, the
+-- same committed views of partitions without such a byte, and the same committed hash levels of every one; its blocks without such a byte are as they
+-- were. Assumes nothing.
+use mathlib.Core.Path.{_≡_, refl, sym, ap, _∙_, subst}
 use mathlib.Core.Bool.{Bool, true, false, cond, true≢false}
 use mathlib.Core.List.{List}
 use mathlib.Core.Logic.{_⊎_, inl, inr, ⊎-elim, _↔_}
@@ -26,9 +26,9 @@ use Rattle.layout.specs.Guarantees.{Guarantees, ExternalGuarantees}
 use Rattle.layout.proofs.GuaranteeLaws.{guarantees}
 use Rattle.layout.proofs.FrameLaws.{agree-part}
 use Rattle.dpfs.specs.Tree.{place, content}
-use Rattle.dpfs.specs.Free.{InRange, FreeIn, Free}
-use Rattle.dpfs.proofs.SpareLaws.{Spares, spares-or, Avoids, avoids-spares, spared-content, spared-free}
-use Rattle.dpfs.proofs.SpaceLaws.{space-spares}
+use Rattle.dpfs.specs.Free.{InRange, Free}
+use Rattle.dpfs.proofs.SpareLaws.{Spares, spares-or, Avoids, avoids-spares, spared-content}
+use Rattle.dpfs.proofs.SpaceLaws.{space-spares, spared-space}
 use Rattle.ivfc.specs.declared.View.{View}
 use Rattle.ivfc.specs.Views.{levelOf, innerByte, contentOf, verified}
 use Rattle.ivfc.specs.Rules.{ViewRules}
@@ -39,20 +39,13 @@ use Rattle.ivfc.proofs.VerifiedLaws.{entry-inside, parent-inside, verified-cong
 use Rattle.views.specs.Places.{partitions, slotOf, partitionOf, treeIn, treeOf, viewIn, committedView, spaceOf}
 use Rattle.views.specs.Protected.{ExternalByte, Protected}
 use Rattle.views.proofs.PlaceLaws.{present, first-there, active-partition, tree-inside, tree-rules, committed-rules, committed-master, space-rules, tree-among}
-use Rattle.views.proofs.ProtectedLaws.{protected-not-free, not-free-protected, never-both, same-or-apart, external-inside}
+use Rattle.views.proofs.ProtectedLaws.{protected-not-free, protected-is-not-free, never-both, same-or-apart, external-inside}
 use Rattle.views.proofs.OpenLaws.{storable-opens}
 use Rattle.views.specs.Versions.{versionOf}
-use Rattle.history.specs.External.{InPlace, LeftBut, ProtectedBut}
+use Rattle.steps.specs.Sessions.{selectorFlipped, forEach, stagedTable}
+use Rattle.history.specs.External.{InPlace}
+use Rattle.history.proofs.Agreeing.{LeftBut}
 use Rattle.history.proofs.Seen.{SameSeen, same-version}
-
--- ---- 01's list without the bytes in W is what is neither free nor in W
-
-pub protected-but : (W : ℕ → Type 0) (image : List ℕ) (c : Container) → Guarantees image c → (i : ℕ)
-    → ProtectedBut W c image i ↔ ((Free (spaceOf c) image i ⊎ W i) → ⊥)
-protected-but W image c g i = (
-  λ p. ⊎-elim (protected-not-free image c g i (p .0)) (p .1),
-  λ n. (not-free-protected image c g i (λ f. n (inl f)), λ w. n (inr w)),
-)
 
 -- ---- ranges (these laws stand in views, private)
 
@@ -136,6 +129,11 @@ module _ (image left : List ℕ) (c : Container) (g : Guarantees image c) (W : �
   pub header-stays : headerBytes left ≡ headerBytes image
   header-stays = agree-part left image headerRange (k .size) (λ i a b. front-stays i (omega arith))
 
+  -- so the table that a begin would stage is the same
+  pub staged-stays : stagedTable c left ≡ stagedTable c image
+  unfolding stagedTable
+  staged-stays = ap (forEach c (selectorFlipped c)) (agree-part left image (active (c .header)) (k .size) (λ i a b. active-stays i (a, b)))
+
   pub still-opens : (o : opened image ≡ opening.Valid c) → opened left ≡ opening.Valid c
   still-opens o = storable-opens image left c o (keeps-more (λ i. ⊎-elim inl (λ w. inr (outer i w))) k)
 
@@ -156,23 +154,35 @@ module _ (image left : List ℕ) (c : Container) (g : Guarantees image c) (W : �
   inner-stays q h = spared-content (treeOf c q) (length image) (tree-rules image c g q h) F image left (spares q h) k
 
   -- and what is free
-  tree-stays : (q : ℕ) → q < partitions c → (i : ℕ) → FreeIn (treeOf c q) left i → FreeIn (treeOf c q) image i
-  tree-stays q h i f = spared-free (treeOf c q) (length image) (tree-rules image c g q h) F image left (spares q h) k i .0 f
+  pub free-stays : (i : ℕ) → Free (spaceOf c) left i ↔ Free (spaceOf c) image i
+  unfolding spaceOf
+  free-stays =
+      spared-space (spaceOf c) (length image) (space-rules image c g) F image left k (spares 0 (first-there (length image) (c .header) (g .header)))
+      (λ e. spares 1 (omega (arith, eqb-true (partitions c) 2 e)))
 
-  pub free-stays : (i : ℕ) → Free (spaceOf c) left i → Free (spaceOf c) image i
-  unfolding Free spaceOf
-  free-stays i (inl t) = inl t
-  free-stays i (inr (inl f)) = inr (inl (tree-stays 0 (first-there (length image) (c .header) (g .header)) i f))
-  free-stays i (inr (inr (e, f))) = inr (inr (e, tree-stays 1 (omega (arith, eqb-true (partitions c) 2 e)) i f))
+  -- so 01's list is the same
+  pub list-stays : (o : opened image ≡ opening.Valid c) → (i : ℕ) → Protected c left i ↔ Protected c image i
+  list-stays o i =
+      let l = protected-is-not-free left c (guarantees left c (still-opens o)) i in
+      let p = protected-is-not-free image c g i in
+      (λ a. p .1 (λ f. l .0 a (free-stays i .1 f)), λ a. l .1 (λ f. p .0 a (free-stays i .0 f)))
 
   master-stays : (q : ℕ) → q < partitions c → (y : ℕ) → y < committedView c q .master .size
       → getD left (committedView c q .master .offset + y) 0 ≡ getD image (committedView c q .master .offset + y) 0
   master-stays q h y l = let m = committed-master image c g q h in active-stays _ (omega arith, omega arith)
 
-  -- so the committed view of an internal partition shows the same version
-  seen : (q : ℕ) → q < partitions c → partitionOf c q .difi .external ≡ false → SameSeen (committedView c q) (committedView c q) left image
+  -- an external level 4 stays where it has no byte in W
+  pub outside-stays : (q : ℕ) → q < partitions c → (y : ℕ) → committedView c q .external ≡ true → y < committedView c q .level4 .size
+      → (W (committedView c q .outside + y) → ⊥) → getD left (committedView c q .outside + y) 0 ≡ getD image (committedView c q .outside + y) 0
+  unfolding committedView viewIn Protected ExternalByte
+  outside-stays q h y e l n =
+      k .bytes _ (⊎-elim (protected-not-free image c g _ (inr (inr (inr (inl (q, h, (e, (omega arith, omega arith)))))))) n)
+
+  -- so a committed view with no byte in W shows the same version
+  seen : (q : ℕ) → q < partitions c → ((y : ℕ) → committedView c q .external ≡ true → W (committedView c q .outside + y) → ⊥)
+      → SameSeen (committedView c q) (committedView c q) left image
   unfolding committedView viewIn
-  seen q h e = record {
+  seen q h n = record {
     masters = refl;
     level1 = refl;
     level2 = refl;
@@ -181,11 +191,17 @@ module _ (image left : List ℕ) (c : Container) (g : Guarantees image c) (W : �
     external = refl;
     master = master-stays q h;
     inner = inner-stays q h;
-    outer = λ t y l. absurd (true≢false (sym t ∙ e));
+    outer = λ e y l. outside-stays q h y e l (n y e);
   }
 
+  pub version-stays : (q : ℕ) → q < partitions c → ((y : ℕ) → committedView c q .external ≡ true → W (committedView c q .outside + y) → ⊥)
+      → versionOf (committedView c q) left ≡ versionOf (committedView c q) image
+  version-stays q h n = same-version (committedView c q) (committedView c q) left image (length image) (committed-rules image c g q h) (seen q h n)
+
+  -- one of an internal partition has none
   pub internal-stays : (q : ℕ) → q < partitions c → partitionOf c q .difi .external ≡ false → versionOf (committedView c q) left ≡ versionOf (committedView c q) image
-  internal-stays q h e = same-version (committedView c q) (committedView c q) left image (length image) (committed-rules image c g q h) (seen q h e)
+  unfolding committedView viewIn
+  internal-stays q h e = version-stays q h (λ y t w. true≢false (sym t ∙ e))
 
   -- ---- a partition of either kind
 
@@ -210,18 +226,13 @@ module _ (image left : List ℕ) (c : Container) (g : Guarantees image c) (W : �
     entries-stay (suc (suc (suc (suc i)))) y a l = absurd (omega arith)
 
     -- and so does each byte of level 4 that is none in W
-    outer-byte : (y : ℕ) → view .external ≡ true → y < view .level4 .size → (W (view .outside + y) → ⊥) → getD left (view .outside + y) 0 ≡ getD image (view .outside + y) 0
-    unfolding committedView viewIn Protected ExternalByte
-    outer-byte y e l n =
-        k .bytes _ (⊎-elim (protected-not-free image c g _ (inr (inr (inr (inl (q, h, (e, (omega arith, omega arith)))))))) n)
-
     pub byte-stays : (y : ℕ) → y < view .level4 .size → (view .external ≡ true → W (view .outside + y) → ⊥) → contentOf view left 4 y ≡ contentOf view image 4 y
     unfolding contentOf
     byte-stays y l n = by (view .external) refl
       where
         by : (t : Bool) → view .external ≡ t
             → cond t (getD left (view .outside + y) 0) (innerByte view left (view .level4) y) ≡ cond t (getD image (view .outside + y) 0) (innerByte view image (view .level4) y)
-        by true e = outer-byte y e l (n e)
+        by true e = outside-stays q h y e l (n e)
         by false e = inner-level (view .level4) y (rules .inner4 e) l
 
     -- a block of a hash level is verified exactly if it was

@@ -14,7 +14,8 @@ use Rattle.views.specs.Places.{partitions, committedView, stagedView}
 use Rattle.steps.specs.declared.Session.{Session}
 use Rattle.steps.specs.declared.Count.the-variants as count
 use Rattle.steps.specs.Sessions.{current}
-use Rattle.steps.specs.Calls.{unread, readIn, readCommitted, readStagedIn, readStaged, verifiedIn, isVerified, countVerifiedIn, countVerified}
+use Rattle.steps.specs.Calls.{unread, readIn, readCommitted, readStaged, verifiedIn, isVerified, countVerifiedIn, countVerified}
+use Rattle.steps.proofs.EnterLaws.{enters, enters-idle}
 use Rattle.number.specs.Blocks.{blocks}
 use Rattle.ivfc.specs.Views.{levelOf, verified}
 use Rattle.faults.specs.declared.Fault.{Fault}
@@ -45,18 +46,19 @@ kept-flags P good q says b (suc n) = go (good b) refl (kept-flags P good q says 
 module _ (image : List ℕ) (c : Container) (o : opened image ≡ opening.Valid c) (q : ℕ) (there : q < partitions c) where
   pub read-committed : (place : ℕ) (buffer : List ℕ) → readCommitted image q place buffer ≡ readOf (versionOf (committedView c q) image) place buffer
   unfolding readCommitted
-  read-committed place buffer = ap (readIn image q place buffer) o ∙ rw (lt-ltb q (partitions c) there) (read-version (committedView c q) image place buffer)
+  read-committed place buffer = ap (readIn committedView image q place buffer) o ∙ rw (lt-ltb q (partitions c) there) (read-version (committedView c q) image place buffer)
 
   pub read-staged : (session : Session) → session .begun ≡ true → current c image session ≡ true → (place : ℕ) (buffer : List ℕ)
       → readStaged image session q place buffer ≡ readOf (versionOf (stagedView c q) image) place buffer
   unfolding readStaged
   read-staged session b k place buffer =
-      ap (readStagedIn image session q place buffer) o ∙ rw (k, b, lt-ltb q (partitions c) there) (read-version (stagedView c q) image place buffer)
+      ap (readIn stagedView image q place buffer) (sym (enters image session (opened image) refl c o b k))
+      ∙ rw (lt-ltb q (partitions c) there) (read-version (stagedView c q) image place buffer)
 
   pub read-idle : (session : Session) → session .begun ≡ false → (place : ℕ) (buffer : List ℕ)
       → readStaged image session q place buffer ≡ unread buffer SessionState
   unfolding readStaged
-  read-idle session b place buffer = ap (readStagedIn image session q place buffer) o ∙ rw b
+  read-idle session b place buffer = ap (readIn stagedView image q place buffer) (sym (enters-idle image session (opened image) refl c o b))
 
   pub judged : (b : ℕ) → isVerified image q b ≡ judgedOf (versionOf (committedView c q) image) b
   unfolding isVerified

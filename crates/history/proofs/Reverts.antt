@@ -1,51 +1,52 @@
 -- What a revert answers and leaves, plain and signed. Assumes nothing.
 use mathlib.Core.Path.{_≡_, refl, sym, ap, _∙_, subst}
-use mathlib.Core.Bool.{Bool, true, false, cond}
+use mathlib.Core.Bool.{Bool, true, false}
 use mathlib.Core.List.{List}
-use mathlib.Core.Logic.{inl, inr}
 use Prim.Native.Nat.{ℕ, _≤_}
 use native.Mathlib.Omega.{arith}
 use lib.ListN.{length}
-use lib.Seq.{sets, length-sets, ext-getD}
+use lib.Seq.{sets, length-sets}
 use Rattle.number.specs.Ranges.{part}
 use Rattle.number.specs.Bytes.{Outside, sameBytes}
 use Rattle.number.specs.Frame.{Keeps}
-use Rattle.number.proofs.FrameLaws.{keeps-refl, keeps-trans, keeps-sets}
+use Rattle.number.proofs.FrameLaws.{keeps-refl, keeps-trans}
 use Rattle.number.proofs.Tests.{and-right, and-both, left-fails}
-use Rattle.number.proofs.ListLaws.{sets-in, sets-out, sets-is, same-refl, same-is}
+use Rattle.number.proofs.ListLaws.{sets-out, sets-is, same-refl, same-is}
 use Rattle.layout.specs.declared.Container.{Container}
 use Rattle.layout.specs.declared.Opened.{Opened}
 use Rattle.layout.specs.declared.Opened.the-variants as opening
-use Rattle.layout.specs.declared.Refusal.the-variants.{Format, SessionState, NothingToRevert}
+use Rattle.layout.specs.declared.Refusal.the-variants.{Format, NothingToRevert}
 use Rattle.layout.specs.declared.JudgedHeader.the-variants.{GoodHeader, BadHeader}
 use Rattle.layout.specs.Magic.{opensWith}
-use Rattle.layout.specs.Headers.{headerRange, headerBytes, judgedHeader}
+use Rattle.layout.specs.Headers.{headerRange, headerBytes, judgedHeader, kindIn}
 use Rattle.layout.specs.Opening.{opened}
 use Rattle.layout.specs.Guarantees.{Guarantees}
 use Rattle.layout.proofs.GuaranteeLaws.{checked, guarantees}
-use Rattle.dpfs.specs.Free.{InRange}
 use Rattle.signing.specs.declared.Signer.{Signer}
-use Rattle.layout.specs.declared.Kind.{Kind}
 use Rattle.signing.specs.Blocks.{signingBlock}
 use Rattle.signing.specs.Calls as signing
-use Rattle.signing.specs.Calls.{signed}
-use Rattle.signatures.specs.Signatures.{signatureRange, signature, openedSigned}
-use Rattle.signatures.proofs.Laws.{length-signature, signed-of}
-use Rattle.commits.specs.Committing.{headerCommitted, committedImage, committedSigned, storedSigned, revertedImage, revertedSigned}
+use Rattle.signing.specs.Calls.{signedHeader, signed}
+use Rattle.signing.proofs.AnswerLaws.{accepted-header}
+use Rattle.signatures.specs.Signatures.{signature, openedSigned}
+use Rattle.signatures.proofs.Laws.{length-signature, signed-by}
+use Rattle.layout.specs.declared.Outcome.the-variants as outcome
+use Rattle.commits.specs.Committing.{storedHeader, storedSigned, headerCommitted}
 use Rattle.steps.specs.declared.Session.{Session}
 use Rattle.steps.specs.Sessions.{nothing, idle, remembering, current, tableStaged, isValid, revertible}
-use Rattle.steps.specs.Calls.{After, unchanged, done, landed, reverting, revert, revertBy, revertSigned}
+use Rattle.steps.specs.Calls.{whileIdle, whileRevertible, enteredBack, After, unchanged, done, goesOn, landed, revertOn, revertBy, revert, revertSigned}
+use Rattle.steps.proofs.EnterLaws.{back-unopened, back-none, back-enters, back-is}
 use Rattle.history.specs.Model.{Form, Plain, Signed, Call, Commit, Stepping, Ruling, Accepted, Refused, Dropped, endingOf}
 use Rattle.history.specs.Run.{State, openedAs, perform, ruled, next, after, events, begins}
 use Rattle.history.specs.Theorem.{InUnit, endedBy}
 use Rattle.history.specs.Term.{revertedAs, reverted, ruledRevert, nextRevert, fits, refused21, stamped, givenBack, afterCommit, SameAnswers, StepsBack, RevertTheorem}
-use Rattle.history.proofs.CallCases.{not-both, not-dropped, not-taken, left, Kept, kept-cond, kept-done, Lasts, lasts-cond, went, went-not, landedImage, idle-after, committed-by, opens-first}
-use Rattle.history.proofs.Following.{staged-table}
+use Rattle.history.proofs.CallCases.{not-both, not-dropped, not-taken, left, Kept, kept-on, kept-done, Lasts, lasts-on, went-on, landedImage, idle-after, committed-by, opens-first}
+use Rattle.history.proofs.Currents.{staged-table}
 use Rattle.history.proofs.Landing.{stays-on}
 use Rattle.history.proofs.Tables.{byte-of}
-use Rattle.history.proofs.Units.{new-size, headed}
+use Rattle.history.proofs.Stored.{storedAs, stored-is, stored-swapped, stored-unit, stored-header, stored-code}
+use Rattle.history.proofs.Units.{header-size, new-size, headed}
 use Rattle.history.proofs.Commits.{commits}
-use Rattle.history.proofs.Signing.{same-signed, signs-too, opens-signed}
+use Rattle.history.proofs.Signing.{opens-signed}
 use Rattle.number.proofs.OrderLaws.{sets-after}
 use Rattle.history.proofs.Fronts.{Fronted, stamped-front, front-opened, front-header, front-answers}
 use Rattle.layout.proofs.TableLaws.{part-length}
@@ -53,7 +54,7 @@ use Rattle.layout.proofs.TableLaws.{part-length}
 -- ---- nothing remembered
 
 no-header : (n : ℕ) → judgedHeader n nothing ≡ BadHeader Format
-unfolding judgedHeader nothing opensWith sameBytes part
+unfolding judgedHeader kindIn nothing opensWith sameBytes part
 no-header n = refl
 
 -- an image that opens has some header
@@ -71,47 +72,46 @@ unlike image c o = by (sameBytes (headerBytes image) nothing) refl
 
 -- ---- what a revert of either form does once it may
 
-abbrev revertNext : Form → State → After
-revertNext Plain st = done (revertedImage (st .image) (st .session .header)) idle
-revertNext (Signed key signer) st = revertBy (st .image) (st .session) key signer (signed (st .image) signer)
+abbrev revertNext : Form → State → Container → After
+revertNext Plain st = revertOn (st .image) (st .session)
+revertNext (Signed key signer) st = revertBy (st .image) (st .session) key signer (signedHeader (st .session .header) signer)
 
-revert-is : (form : Form) (st : State) → revertedAs form st ≡ reverting (st .image) (st .session) (revertNext form st) (opened (st .image))
+revert-is : (form : Form) (st : State) → revertedAs form st ≡ goesOn (st .image) (st .session) (revertNext form st) (enteredBack (st .image) (st .session))
 unfolding revert revertSigned
 revert-is Plain st = refl
 revert-is (Signed key signer) st = refl
 
--- the image that it leaves then
-abbrev pub backImage : Form → (image former : List ℕ) → List ℕ
-backImage Plain image former = revertedImage image former
-backImage (Signed key signer) image former = revertedSigned image former key signer
-
-took-back : (form : Form) (st : State) → endingOf (revertNext form st .outcome) ≡ Accepted → revertNext form st ≡ done (backImage form (st .image) (st .session .header)) idle
-took-back Plain st e = refl
-took-back (Signed key signer) st e = by (signed (st .image) signer) e
+took-back : (form : Form) (st : State) (c : Container) → endingOf (revertNext form st c .outcome) ≡ Accepted
+    → revertNext form st c ≡ done (storedAs form (st .image) (st .session .header)) idle
+took-back Plain st c e = refl
+took-back (Signed key signer) st c e = by (signedHeader (st .session .header) signer) e
   where
-    by : (a : signing.Answer) → endingOf (revertBy (st .image) (st .session) key signer a .outcome) ≡ Accepted
-        → revertBy (st .image) (st .session) key signer a ≡ done (revertedSigned (st .image) (st .session .header) key signer) idle
+    by : (a : signing.Answer) → endingOf (revertBy (st .image) (st .session) key signer a c .outcome) ≡ Accepted
+        → revertBy (st .image) (st .session) key signer a c ≡ done (storedSigned (st .image) key signer (st .session .header)) idle
     by (signing.Signs block) e = refl
     by (signing.Refused r) e = not-both e refl
 
 -- it answers 15 or nothing
-back-answers : (form : Form) (st : State) → revertNext form st .outcome ≡ endedBy (fits form (st .image))
-back-answers Plain st = refl
-back-answers (Signed key signer) st = by (signed (st .image) signer)
+back-answers : (form : Form) (st : State) (c : Container) → revertNext form st c .outcome ≡ endedBy (fits form (st .session .header))
+back-answers Plain st c = refl
+back-answers (Signed key signer) st c = by (signedHeader (st .session .header) signer)
   where
-    by : (a : signing.Answer) → revertBy (st .image) (st .session) key signer a .outcome ≡ endedBy (signing.outcomeOf a)
+    by : (a : signing.Answer) → revertBy (st .image) (st .session) key signer a c .outcome ≡ endedBy (signing.outcomeOf a)
     by (signing.Signs block) = refl
     by (signing.Refused r) = refl
 
 -- a session that is idle and remembers nothing
+none-back : (image : List ℕ) (c : Container) → opened image ≡ opening.Valid c → enteredBack image idle ≡ opening.Refused NothingToRevert
+unfolding idle revertible
+none-back image c o =
+    sym (back-none image idle (opened image) refl c o refl
+    (left-fails (sameBytes (headerBytes image) nothing) (isValid (opened (storedHeader image nothing))) (unlike image c o)))
+
 pub fresh : (form : Form) (image : List ℕ) (c : Container) → opened image ≡ opening.Valid c
     → revertedAs form (record { image = image; session = idle }) ≡ unchanged image idle NothingToRevert
-unfolding idle revertible
 fresh form image c o =
-    let next = revertNext form (record { image = image; session = idle }) in
-    revert-is form (record { image = image; session = idle }) ∙ ap (reverting image idle next) o
-    ∙ ap (λ (t : Bool). cond t next (unchanged image idle NothingToRevert))
-    (left-fails (sameBytes (headerBytes image) nothing) (isValid (opened (revertedImage image nothing))) (unlike image c o))
+    let st : State = record { image = image; session = idle } in
+    revert-is form st ∙ ap (goesOn image idle (revertNext form st)) (none-back image c o)
 
 -- ---- which case it is
 
@@ -121,76 +121,55 @@ pub record Reached (form : Form) (st : State) : Type 0 where
   pub opens : opened (st .image) ≡ opening.Valid container
   pub rests : st .session .begun ≡ false
   pub revertible : revertible (st .image) (st .session .header) (st .session .later) ≡ true
-  pub after : revertedAs form st ≡ revertNext form st
+  pub after : revertedAs form st ≡ revertNext form st container
 
 pub reached-by : (form : Form) (st : State) → (ruledRevert form st ≡ Refused → ⊥) → Reached form st
 reached-by form st e =
-    by (opened (st .image)) refl (subst (λ (a : After). endingOf (a .outcome) ≡ Refused → ⊥) (revert-is form st) e)
-  where
-    by : (o : Opened) → opened (st .image) ≡ o → (endingOf (reverting (st .image) (st .session) (revertNext form st) o .outcome) ≡ Refused → ⊥) → Reached form st
-    by (opening.Refused r) p e = absurd (e refl)
-    by (opening.Valid c) p e =
-        let d = cond (revertible (st .image) (st .session .header) (st .session .later)) (revertNext form st) (unchanged (st .image) (st .session) NothingToRevert) in
-        let t1 = went-not (st .session .begun) (unchanged (st .image) (st .session) SessionState) d refl e in
-        let t2 = went (revertible (st .image) (st .session .header) (st .session .later)) (revertNext form st) (unchanged (st .image) (st .session) NothingToRevert) refl (t1 .2) in
-        record {
-          container = c;
-          opens = p;
-          rests = t1 .0;
-          revertible = t2 .0;
-          after = revert-is form st ∙ ap (reverting (st .image) (st .session) (revertNext form st)) p ∙ t1 .1 ∙ t2 .1;
-        }
+    let (c, f) = went-on (st .image) (st .session) (revertNext form st) (enteredBack (st .image) (st .session))
+    (subst (λ (a : After). endingOf (a .outcome) ≡ Refused → ⊥) (revert-is form st) e) in
+    let (o, b, y) = back-is (st .image) (st .session) c f in
+    record { container = c; opens = o; rests = b; revertible = y; after = revert-is form st ∙ ap (goesOn (st .image) (st .session) (revertNext form st)) f }
 
 -- an accepted one
 pub record Reverted (form : Form) (st : State) : Type 0 where
   pub reach : Reached form st
-  pub after : revertedAs form st ≡ done (backImage form (st .image) (st .session .header)) idle
+  pub after : revertedAs form st ≡ done (storedAs form (st .image) (st .session .header)) idle
 
 pub reverted-by : (form : Form) (st : State) → ruledRevert form st ≡ Accepted → Reverted form st
 reverted-by form st e =
     let r = reached-by form st (λ n. not-both e n) in
-    record { reach = r; after = r .after ∙ took-back form st (subst (λ (a : After). endingOf (a .outcome) ≡ Accepted) (r .after) e) }
+    record { reach = r; after = r .after ∙ took-back form st (r .container) (subst (λ (a : After). endingOf (a .outcome) ≡ Accepted) (r .after) e) }
 
 -- a refused one changes nothing, and none is dropped
-kept-next : (form : Form) (st : State) → Kept st (revertNext form st)
-kept-next Plain st = kept-done st _ _
-kept-next (Signed key signer) st = by (signed (st .image) signer)
+kept-next : (form : Form) (st : State) (c : Container) → Kept st (revertNext form st c)
+kept-next Plain st c = kept-done st _ _
+kept-next (Signed key signer) st c = by (signedHeader (st .session .header) signer)
   where
-    by : (a : signing.Answer) → Kept st (revertBy (st .image) (st .session) key signer a)
+    by : (a : signing.Answer) → Kept st (revertBy (st .image) (st .session) key signer a c)
     by (signing.Signs block) = kept-done st _ _
     by (signing.Refused r) = λ e. refl
 
 pub refused : (form : Form) (st : State) → ruledRevert form st ≡ Refused → nextRevert form st ≡ st
-refused form st = subst (Kept st) (sym (revert-is form st)) (by (opened (st .image)))
-  where
-    by : (o : Opened) → Kept st (reverting (st .image) (st .session) (revertNext form st) o)
-    by (opening.Refused r) = λ e. refl
-    by (opening.Valid c) =
-        kept-cond (st .session .begun) st _ _ (λ e. refl)
-        (kept-cond (revertible (st .image) (st .session .header) (st .session .later)) st _ _ (kept-next form st) (λ e. refl))
+refused form st = subst (Kept st) (sym (revert-is form st)) (kept-on st (revertNext form st) (kept-next form st) (enteredBack (st .image) (st .session)))
 
-lasts-next : (form : Form) (st : State) → Lasts (revertNext form st)
-lasts-next Plain st = λ e. not-taken e refl
-lasts-next (Signed key signer) st = by (signed (st .image) signer)
+lasts-next : (form : Form) (st : State) (c : Container) → Lasts (revertNext form st c)
+lasts-next Plain st c = λ e. not-taken e refl
+lasts-next (Signed key signer) st c = by (signedHeader (st .session .header) signer)
   where
-    by : (a : signing.Answer) → Lasts (revertBy (st .image) (st .session) key signer a)
+    by : (a : signing.Answer) → Lasts (revertBy (st .image) (st .session) key signer a c)
     by (signing.Signs block) = λ e. not-taken e refl
     by (signing.Refused r) = λ e. not-dropped e refl
 
 pub lasts : (form : Form) (st : State) → ruledRevert form st ≡ Dropped → ⊥
-lasts form st = subst Lasts (sym (revert-is form st)) (by (opened (st .image)))
-  where
-    by : (o : Opened) → Lasts (reverting (st .image) (st .session) (revertNext form st) o)
-    by (opening.Refused r) = λ e. not-dropped e refl
-    by (opening.Valid c) =
-        lasts-cond (st .session .begun) _ _ (λ e. not-dropped e refl)
-        (lasts-cond (revertible (st .image) (st .session .header) (st .session .later)) _ _ (lasts-next form st) (λ e. not-dropped e refl))
+lasts form st =
+    subst Lasts (sym (revert-is form st)) (lasts-on (st .image) (st .session) (revertNext form st) (lasts-next form st) (enteredBack (st .image) (st .session)))
 
 -- one while the session is begun is refused
 pub busy : (form : Form) (st : State) → st .session .begun ≡ true → ruledRevert form st ≡ Refused
+unfolding enteredBack
 busy form st b = ap (λ (a : After). endingOf (a .outcome)) (revert-is form st) ∙ by (opened (st .image))
   where
-    by : (o : Opened) → endingOf (reverting (st .image) (st .session) (revertNext form st) o .outcome) ≡ Refused
+    by : (o : Opened) → endingOf (goesOn (st .image) (st .session) (revertNext form st) (whileRevertible (st .image) (st .session) (whileIdle (st .session) o)) .outcome) ≡ Refused
     by (opening.Refused r) = refl
     by (opening.Valid c) = rw b
 
@@ -201,7 +180,8 @@ forgot form image = by (opened image) refl
     by : (o : Opened) → opened image ≡ o → ruledRevert form (record { image = image; session = idle }) ≡ Refused
     by (opening.Refused r) p =
         ap (λ (a : After). endingOf (a .outcome))
-        (revert-is form (record { image = image; session = idle }) ∙ ap (reverting image idle (revertNext form (record { image = image; session = idle }))) p)
+        (revert-is form (record { image = image; session = idle })
+        ∙ ap (goesOn image idle (revertNext form (record { image = image; session = idle }))) (sym (back-unopened image idle (opened image) refl r p) ∙ p))
     by (opening.Valid c) p = ap (λ (a : After). endingOf (a .outcome)) (fresh form image c p)
 
 -- ---- the bytes
@@ -216,12 +196,6 @@ put-back base header m n =
     (λ i h. sym (sets-out base 0x100 header i (subst (λ (z : ℕ). Outside 0x100 z i) (k ∙ sym n) h))))
 
 -- ---- after a commit
-
--- it stores the signature, if it is signed, and the header
-landed-is : (form : Form) (c : Container) (image : List ℕ) → landedImage form c image ≡ sets (stamped form (headerCommitted c image) image) 0x100 (headerCommitted c image)
-unfolding committedImage committedSigned storedSigned
-landed-is Plain c image = refl
-landed-is (Signed key signer) c image = refl
 
 module _ (image : List ℕ) (c : Container) (o : opened image ≡ opening.Valid c) (staged : tableStaged c image ≡ true) (form : Form) where
   g : Guarantees image c
@@ -241,12 +215,12 @@ module _ (image : List ℕ) (c : Container) (o : opened image ≡ opening.Valid 
   put-front = stamped-front form (headerCommitted c image) image
 
   -- the header put back makes the image what it was, but for that
-  restored : revertedImage there (headerBytes image) ≡ stamped form (headerBytes there) image
-  unfolding revertedImage
+  restored : storedHeader there (headerBytes image) ≡ stamped form (headerBytes there) image
+  unfolding storedHeader
   restored =
       let m = g .shortest in
       let l = put-front .size in
-      ap (λ (x : List ℕ). sets x 0x100 (headerBytes image)) (landed-is form c image)
+      ap (λ (x : List ℕ). sets x 0x100 (headerBytes image)) (stored-is form image (headerCommitted c image))
       ∙ ap (sets (sets put 0x100 (headerCommitted c image)) 0x100) (sym (front-header image put put-front))
       ∙ put-back put (headerCommitted c image) (omega arith) (new-size image c g)
       ∙ ap (λ (h : List ℕ). stamped form h image) (sym (headed image c g form .header))
@@ -254,7 +228,7 @@ module _ (image : List ℕ) (c : Container) (o : opened image ≡ opening.Valid 
   revertible-there : revertible there (headerBytes image) (headerBytes there) ≡ true
   unfolding revertible
   revertible-there =
-      and-both (sameBytes (headerBytes there) (headerBytes there)) (isValid (opened (revertedImage there (headerBytes image))))
+      and-both (sameBytes (headerBytes there) (headerBytes there)) (isValid (opened (storedHeader there (headerBytes image))))
       (same-refl (headerBytes there))
       (ap (λ (x : List ℕ). isValid (opened x)) restored
       ∙ ap isValid (front-opened image (stamped form (headerBytes there) image) (stamped-front form (headerBytes there) image) ∙ o))
@@ -263,13 +237,16 @@ module _ (image : List ℕ) (c : Container) (o : opened image ≡ opening.Valid 
   state = record { image = there; session = session }
 
   -- so a revert goes on
-  pub goes-back : (back : Form) → revertedAs back state ≡ revertNext back state
+  pub goes-back : (back : Form) → (d : Container) × (revertedAs back state ≡ revertNext back state d)
   goes-back back =
-      revert-is back state ∙ ap (reverting there session (revertNext back state)) (commits image c o staged there (headed image c g form) .opens)
-      ∙ ap (λ (t : Bool). cond t (revertNext back state) (unchanged there session NothingToRevert)) revertible-there
+      let d = commits image c o staged there (headed image c g form) in (
+        d .container,
+        revert-is back state
+            ∙ ap (goesOn there session (revertNext back state)) (sym (back-enters there session (opened there) refl (d .container) (d .opens) refl revertible-there)),
+      )
 
-  pub given-back : (back : Form) → backImage back there (headerBytes image) ≡ givenBack form back image there
-  unfolding revertedSigned storedSigned revertedImage
+  pub given-back : (back : Form) → storedAs back there (headerBytes image) ≡ givenBack form back image there
+  unfolding storedSigned storedHeader
   given-back Plain = restored
   given-back (Signed key signer) =
       sets-after (headerBytes image) (signature key signer (headerBytes image)) there 0 0x100 (let n = length-signature key signer (headerBytes image) in omega arith)
@@ -289,19 +266,26 @@ lands form st e =
     let b = committed-by form st c o e in
     record { container = c; opens = o; staged = staged-table c (st .image) (st .session) (b .current); after = ap left (b .after) }
 
+former-size : (form : Form) (st : State) → ruled (Commit form) st ≡ Accepted → length (headerBytes (st .image)) ≡ 256
+former-size form st e = let l = lands form st e in header-size (st .image) (l .container) (guarantees (st .image) (l .container) (l .opens))
+
 module _ (form back : Form) (st : State) (e : ruled (Commit form) st ≡ Accepted) where
   abbrev s : State
   s = next (Commit form) st
 
-  went-back : revertedAs back s ≡ revertNext back s
+  went-back : (d : Container) × (revertedAs back s ≡ revertNext back s d)
   went-back =
       let l = lands form st e in
-      subst (λ (x : State). revertedAs back x ≡ revertNext back x) (sym (l .after)) (goes-back (st .image) (l .container) (l .opens) (l .staged) form back)
+      subst (λ (x : State). (d : Container) × (revertedAs back x ≡ revertNext back x d)) (sym (l .after)) (goes-back (st .image) (l .container) (l .opens) (l .staged) form back)
 
-  came-back : backImage back (s .image) (s .session .header) ≡ givenBack form back (st .image) (s .image)
+  -- the header that it restores
+  pub former-is : s .session .header ≡ headerBytes (st .image)
+  former-is = ap (λ (x : State). x .session .header) (lands form st e .after)
+
+  came-back : storedAs back (s .image) (s .session .header) ≡ givenBack form back (st .image) (s .image)
   came-back =
       let l = lands form st e in
-      subst (λ (x : State). backImage back (x .image) (x .session .header) ≡ givenBack form back (st .image) (x .image)) (sym (l .after))
+      subst (λ (x : State). storedAs back (x .image) (x .session .header) ≡ givenBack form back (st .image) (x .image)) (sym (l .after))
       (given-back (st .image) (l .container) (l .opens) (l .staged) form back)
 
   -- a revert then leaves the former image
@@ -315,54 +299,53 @@ module _ (form back : Form) (st : State) (e : ruled (Commit form) st ≡ Accepte
 
 -- ---- signed
 
-front-put : (base code : List ℕ) → 0x200 ≤ length base → length code ≡ 16 → part (sets base 0 code) signatureRange ≡ code
-front-put base code m n =
-    let l = length-sets base 0 code in
-    let k : length (part (sets base 0 code) signatureRange) ≡ 16 = part-length (sets base 0 code) signatureRange (omega arith) in
-    ext-getD 0 (part (sets base 0 code) signatureRange) code (k ∙ sym n)
-    (λ i h. byte-of (sets base 0 code) signatureRange i (omega arith) ∙ sets-in base 0 code i (omega arith) (omega arith))
+-- what an accepted one leaves opens, since the image opened under the former header
+valid : (o : Opened) → isValid o ≡ true → (c : Container) × (o ≡ opening.Valid c)
+valid (opening.Valid c) e = (c, refl)
+valid (opening.Refused r) e = absurd (let z : _≡_ {A = ℕ} 0 1 = cc in omega arith)
 
--- an accepted signed revert has its block
-signs-first : (key : List ℕ) (signer : Signer) (st : State) → ruledRevert (Signed key signer) st ≡ Accepted → (block : List ℕ) × (signed (st .image) signer ≡ signing.Signs block)
+opens-former : (image former later : List ℕ) → revertible image former later ≡ true → isValid (opened (storedHeader image former)) ≡ true
+unfolding revertible
+opens-former image former later e = and-right (sameBytes (headerBytes image) later) (isValid (opened (storedHeader image former))) e
+
+same-back : (form : Form) (image former : List ℕ) → opened (storedAs form image former) ≡ opened (storedHeader image former)
+same-back form image former =
+    ap opened (stored-swapped form image former) ∙ front-opened (storedHeader image former) (stamped form former (storedHeader image former)) (stamped-front form former (storedHeader image former))
+
+opens-back : (form : Form) (st : State) (r : Reached form st) → (c : Container) × (opened (storedAs form (st .image) (st .session .header)) ≡ opening.Valid c)
+opens-back form st r =
+    let (c, o) = valid (opened (storedHeader (st .image) (st .session .header))) (opens-former (st .image) (st .session .header) (st .session .later) (r .revertible)) in
+    (c, same-back form (st .image) (st .session .header) ∙ o)
+
+-- an accepted signed revert has its block of the header that it restores
+signs-first : (key : List ℕ) (signer : Signer) (st : State) → ruledRevert (Signed key signer) st ≡ Accepted
+    → signedHeader (st .session .header) signer ≡ signing.Signs (signingBlock signer (st .session .header))
 signs-first key signer st e =
-    by (signed (st .image) signer) refl
-    (subst (λ (a : After). endingOf (a .outcome) ≡ Accepted) (reached-by (Signed key signer) st (λ n. not-both e n) .after) e)
+    let r = reached-by (Signed key signer) st (λ n. not-both e n) in
+    accepted-header (st .session .header) signer
+    (by (signedHeader (st .session .header) signer) (r .container) (subst (λ (a : After). endingOf (a .outcome) ≡ Accepted) (r .after) e))
   where
-    by : (a : signing.Answer) → signed (st .image) signer ≡ a → endingOf (revertBy (st .image) (st .session) key signer a .outcome) ≡ Accepted
-        → (block : List ℕ) × (signed (st .image) signer ≡ signing.Signs block)
-    by (signing.Signs block) k e = (block, k)
-    by (signing.Refused r) k e = not-both e refl
+    by : (a : signing.Answer) (c : Container) → endingOf (revertBy (st .image) (st .session) key signer a c .outcome) ≡ Accepted → signing.outcomeOf a ≡ outcome.Accepted
+    by (signing.Signs block) c e = refl
+    by (signing.Refused r) c e = not-both e refl
 
-module _ (form : Form) (key : List ℕ) (signer : Signer) (st : State) (e : ruled (Commit form) st ≡ Accepted)
-    (a : ruledRevert (Signed key signer) (next (Commit form) st) ≡ Accepted) where
-  -- so the former header has one too
-  former-signs : signed (st .image) signer ≡ signing.Signs (signingBlock signer (headerBytes (st .image)))
-  former-signs =
-      let l = lands form st e in
-      let c = l .container in
-      let there = landedImage form c (st .image) in
-      let w = headed (st .image) c (guarantees (st .image) c (l .opens)) form in
-      let k = commits (st .image) c (l .opens) (l .staged) there w in
-      let (block, f) = signs-first key signer (next (Commit form) st) a in
-      let now : signed there signer ≡ signing.Signs block = subst (λ (x : State). signed (x .image) signer ≡ signing.Signs block) (l .after) f in
-      signed-of (st .image) c (guarantees (st .image) c (l .opens)) signer
-      ∙ signs-too (c .header .kind) signer (headerBytes there) (headerBytes (st .image)) block
-      (ap (λ (x : Kind). signing.signedAs x signer (headerBytes there)) (sym (k .kind))
-      ∙ sym (signed-of there (k .container) (guarantees there (k .container) (k .opens)) signer) ∙ now)
-
-  pub opens-again : openedSigned (givenBack form (Signed key signer) (st .image) (next (Commit form) st .image)) key signer ≡ opened (st .image)
-  opens-again =
-      let l = lands form st e in
-      let back = givenBack form (Signed key signer) (st .image) (next (Commit form) st .image) in
-      let k = given-front form (Signed key signer) st e in
-      let base = stamped form (headerBytes (next (Commit form) st .image)) (st .image) in
-      let m = guarantees (st .image) (l .container) (l .opens) .shortest in
-      let n = stamped-front form (headerBytes (next (Commit form) st .image)) (st .image) .size in
-      opens-signed back key (signingBlock signer (headerBytes (st .image))) signer (l .container) (front-opened (st .image) back k ∙ l .opens)
-      (same-signed (st .image) back (k .size) (front-header (st .image) back k) signer ∙ former-signs)
-      (front-put base (signature key signer (headerBytes (st .image))) (omega arith) (length-signature key signer (headerBytes (st .image)))
-      ∙ ap (signature key signer) (sym (front-header (st .image) back k)))
-      ∙ sym (l .opens)
+-- and under the same key and signer
+signs : (key : List ℕ) (signer : Signer) (st : State) → length (st .session .header) ≡ 256 → ruledRevert (Signed key signer) st ≡ Accepted
+    → (c : Container) × (openedAs (Signed key signer) (nextRevert (Signed key signer) st .image) ≡ opening.Valid c) × (opened (nextRevert (Signed key signer) st .image) ≡ opening.Valid c)
+signs key signer st full e =
+    let r = reverted-by (Signed key signer) st e in
+    let former = st .session .header in
+    let image = storedSigned (st .image) key signer former in
+    let (c, o) = opens-back (Signed key signer) st (r .reach) in
+    let m = guarantees (st .image) (r .reach .container) (r .reach .opens) .shortest in
+    let h : headerBytes image ≡ former = stored-header (st .image) former m full (Signed key signer) in
+    let b : signed image signer ≡ signing.Signs (signingBlock signer former) =
+    signed-by image c (guarantees image c o) signer ∙ ap (λ (x : List ℕ). signedHeader x signer) h ∙ signs-first key signer st e in (
+      c,
+      ap (λ (a : After). openedSigned (a .image) key signer) (r .after)
+          ∙ opens-signed image key (signingBlock signer former) signer c o b (stored-code (st .image) former m full key signer ∙ ap (signature key signer) (sym h)),
+      ap (λ (a : After). opened (a .image)) (r .after) ∙ o,
+    )
 
 -- ---- the theorem
 
@@ -382,61 +365,38 @@ module _ (form back : Form) (st : State) (between : List Call) (e : ruled (Commi
         subst (λ (x : State). SameAnswers (st .image) (x .image)) (sym leaves)
         (front-answers (st .image) (givenBack form back (st .image) (next (Commit form) st .image)) (given-front form back st e))
 
-opens-back : (form back : Form) (st : State) (e : ruled (Commit form) st ≡ Accepted) → ruledRevert back (next (Commit form) st) ≡ Accepted
-    → openedAs back (givenBack form back (st .image) (next (Commit form) st .image)) ≡ opened (st .image)
-opens-back form Plain st e a = front-opened (st .image) (givenBack form Plain (st .image) (next (Commit form) st .image)) (given-front form Plain st e)
-opens-back form (Signed key signer) st e a = opens-again form key signer st e a
+opens-again : (back : Form) (st : State) (image : List ℕ) → length (st .session .header) ≡ 256 → ruledRevert back st ≡ Accepted
+    → SameAnswers image (nextRevert back st .image) → openedAs back (nextRevert back st .image) ≡ opened image
+opens-again Plain st image full a same = same .opening
+opens-again (Signed key signer) st image full a same = let (c, s, o) = signs key signer st full a in s ∙ sym o ∙ same .opening
 
 steps-back : (form back : Form) (st : State) (between : List Call) → ruled (Commit form) st ≡ Accepted → begins (events between (next (Commit form) st)) ≡ 0
     → StepsBack form back st between
 steps-back form back st between e z = record {
   answer = ap (λ (x : State). reverted back x .answer) (stayed form back st between e z)
-      ∙ ap (λ (a : After). Stepping (a .outcome)) (went-back form back st e) ∙ ap Stepping (back-answers back (next (Commit form) st));
+      ∙ ap (λ (a : After). Stepping (a .outcome)) (went-back form back st e .1)
+      ∙ ap Stepping (back-answers back (next (Commit form) st) (went-back form back st e .0))
+      ∙ ap (λ (h : List ℕ). Stepping (endedBy (fits back h))) (former-is form back st e);
   leaves = leaves form back st between e z;
   answers = answers form back st between e z;
-  opens = λ a. ap (λ (x : State). openedAs back (x .image)) (leaves form back st between e z a)
-      ∙ opens-back form back st e (taken form back st between e z a);
+  opens = λ a. opens-again back (afterCommit form st between) (st .image)
+      (ap (λ (x : State). length (x .session .header)) (stayed form back st between e z) ∙ ap length (former-is form back st e) ∙ former-size form st e)
+      a (answers form back st between e z a);
 }
-
--- what an accepted one leaves opens, since the image opened under the former header
-valid : (o : Opened) → isValid o ≡ true → (c : Container) × (o ≡ opening.Valid c)
-valid (opening.Valid c) e = (c, refl)
-valid (opening.Refused r) e = absurd (let z : _≡_ {A = ℕ} 0 1 = cc in omega arith)
-
-opens-former : (image former later : List ℕ) → revertible image former later ≡ true → isValid (opened (revertedImage image former)) ≡ true
-unfolding revertible
-opens-former image former later e = and-right (sameBytes (headerBytes image) later) (isValid (opened (revertedImage image former))) e
-
-same-back : (form : Form) (image former : List ℕ) → opened (backImage form image former) ≡ opened (revertedImage image former)
-unfolding revertedSigned storedSigned revertedImage
-same-back Plain image former = refl
-same-back (Signed key signer) image former =
-    ap opened (sets-after former (signature key signer former) image 0 0x100 (let k = length-signature key signer former in omega arith))
-    ∙ front-opened (sets image 0x100 former) (sets (sets image 0x100 former) 0 (signature key signer former)) (stamped-front (Signed key signer) former (sets image 0x100 former))
 
 again : (form back : Form) (st : State) → ruledRevert form st ≡ Accepted → reverted back (nextRevert form st) .answer ≡ refused21
 again form back st e =
     let r = reverted-by form st e in
-    let (c, o) = valid (opened (revertedImage (st .image) (st .session .header))) (opens-former (st .image) (st .session .header) (st .session .later) (r .reach .revertible)) in
+    let (c, o) = opens-back form st (r .reach) in
     ap (λ (a : After). reverted back (left a) .answer) (r .after)
-    ∙ ap (λ (a : After). Stepping (a .outcome))
-    (fresh back (backImage form (st .image) (st .session .header)) c (same-back form (st .image) (st .session .header) ∙ o))
-
-back-unit : (form : Form) (image former : List ℕ) → length former ≡ 256 → Keeps (InUnit form) image (backImage form image former)
-unfolding revertedSigned storedSigned revertedImage
-back-unit Plain image former n = keeps-sets (InRange headerRange) image 0x100 former (λ i h. (omega arith, omega arith))
-back-unit (Signed key signer) image former n =
-    let code = signature key signer former in
-    let m = length-signature key signer former in
-    keeps-trans (λ i f. f) (keeps-sets (InUnit (Signed key signer)) image 0 code (λ i h. inl (omega arith, omega arith)))
-    (keeps-sets (InUnit (Signed key signer)) (sets image 0 code) 0x100 former (λ i h. inr (omega arith, omega arith)))
+    ∙ ap (λ (a : After). Stepping (a .outcome)) (fresh back (storedAs form (st .image) (st .session .header)) c o)
 
 stores : (form : Form) (st : State) → length (st .session .header) ≡ 256 → Keeps (InUnit form) (st .image) (nextRevert form st .image)
 stores form st n = by (ruledRevert form st) refl
   where
     by : (r : Ruling) → ruledRevert form st ≡ r → Keeps (InUnit form) (st .image) (nextRevert form st .image)
     by Accepted e =
-        subst (λ (a : After). Keeps (InUnit form) (st .image) (a .image)) (sym (reverted-by form st e .after)) (back-unit form (st .image) (st .session .header) n)
+        subst (λ (a : After). Keeps (InUnit form) (st .image) (a .image)) (sym (reverted-by form st e .after)) (stored-unit form (st .image) (st .session .header) n)
     by Refused e = subst (λ (s : State). Keeps (InUnit form) (st .image) (s .image)) (sym (refused form st e)) (keeps-refl _ _)
     by Dropped e = absurd (lasts form st e)
 
@@ -445,6 +405,7 @@ revert-theorem = record {
   back = steps-back;
   again = again;
   fresh = λ form image c o. ap (λ (a : After). Stepping (a .outcome)) (fresh form image c o);
+  signs = λ key signer st full e. let (c, s, o) = signs key signer st full e in (c, s);
   stores = stores;
   refused = refused;
 }

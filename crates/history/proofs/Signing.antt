@@ -3,39 +3,36 @@
 use mathlib.Core.Path.{_≡_, refl, sym, ap, _∙_, subst}
 use mathlib.Core.Bool.{Bool, true, false, cond}
 use mathlib.Core.List.{List}
-use mathlib.Core.Logic.{inl, inr}
 use Prim.Native.Nat.{ℕ}
 use native.Mathlib.Omega.{arith}
 use lib.ListN.{length}
-use lib.Seq.{sets}
 use Rattle.number.specs.Frame.{Keeps}
 use Rattle.number.specs.Ranges.{part}
-use Rattle.number.proofs.FrameLaws.{keeps-refl, keeps-trans, keeps-sets}
+use Rattle.number.proofs.FrameLaws.{keeps-refl}
 use Rattle.number.proofs.ListLaws.{same-refl}
 use Rattle.layout.specs.declared.Container.{Container}
 use Rattle.layout.specs.declared.Opened.the-variants as opening
-use Rattle.layout.specs.Headers.{headerRange, headerBytes}
+use Rattle.layout.specs.Headers.{headerBytes}
 use Rattle.layout.specs.Opening.{opened}
-use Rattle.layout.specs.Guarantees.{Guarantees}
 use Rattle.layout.proofs.GuaranteeLaws.{guarantees}
-use Rattle.dpfs.specs.Free.{InRange}
 use Rattle.signing.specs.declared.Signer.{Signer}
 use Rattle.layout.specs.declared.Kind.{Kind}
 use Rattle.layout.specs.declared.Refusal.the-variants.{SignerKind}
 use Rattle.signing.specs.Blocks.{signingBlock, kindOf}
 use Rattle.signing.specs.Calls.{Answer, Signs, Refused, sameKind, signedAs, signed}
 use Rattle.signatures.specs.Signatures.{signatureRange, signature, afterSigner, comesFirst, openedSigned}
-use Rattle.signatures.proofs.Laws.{length-signature, signed-of}
-use Rattle.commits.specs.Committing.{headerCommitted, committedImage, storedSigned, committedSigned}
+use Rattle.signatures.proofs.Laws.{signed-of}
+use Rattle.commits.specs.Committing.{headerCommitted}
 use Rattle.steps.specs.Calls.{After}
-use Rattle.history.specs.Model.{Form, Plain, Signed, Commit, Ruling, Accepted}
+use Rattle.history.specs.Model.{Form, Signed, Commit, Ruling, Accepted}
 use Rattle.history.specs.Model as model
 use Rattle.history.specs.Run.{State, perform, ruled, next}
 use Rattle.history.specs.Theorem.{InUnit, SigningTheorem}
 use Rattle.history.proofs.CallCases.{landedImage, refused, lasts, committed-by, opens-first, signed-first}
 use Rattle.history.proofs.CallLaws.{CallLaws}
-use Rattle.history.proofs.Following.{staged-table}
-use Rattle.history.proofs.Units.{new-size, signed-front}
+use Rattle.history.proofs.Currents.{staged-table}
+use Rattle.history.proofs.Stored.{stored-unit, stored-code}
+use Rattle.history.proofs.Units.{new-size}
 
 -- ---- what goes by the first 0x200 bytes
 
@@ -60,17 +57,6 @@ same-signature image left key signer o h f s = by (signed image signer) s
 
 -- ---- the unit
 
-landed-unit : (form : Form) (image : List ℕ) (c : Container) → Guarantees image c → Keeps (InUnit form) image (landedImage form c image)
-unfolding committedImage committedSigned storedSigned
-landed-unit Plain image c g = let n = new-size image c g in keeps-sets (InRange headerRange) image 0x100 (headerCommitted c image) (λ i h. (omega arith, omega arith))
-landed-unit (Signed key signer) image c g =
-    let code = signature key signer (headerCommitted c image) in
-    let n = new-size image c g in
-    let m = length-signature key signer (headerCommitted c image) in
-    keeps-trans (λ i f. f)
-    (keeps-sets (InUnit (Signed key signer)) image 0 code (λ i h. inl (omega arith, omega arith)))
-    (keeps-sets (InUnit (Signed key signer)) (sets image 0 code) 0x100 (headerCommitted c image) (λ i h. inr (omega arith, omega arith)))
-
 pub unit : (form : Form) (st : State) → Keeps (InUnit form) (st .image) (next (Commit form) st .image)
 unfolding perform
 unit form st = by (ruled (Commit form) st) refl
@@ -78,7 +64,7 @@ unit form st = by (ruled (Commit form) st) refl
     by : (r : Ruling) → ruled (Commit form) st ≡ r → Keeps (InUnit form) (st .image) (next (Commit form) st .image)
     by Accepted e =
         let (c, o) = opens-first form st e in
-        subst (λ (a : After). Keeps (InUnit form) (st .image) (a .image)) (sym (committed-by form st c o e .after)) (landed-unit form (st .image) c (guarantees (st .image) c o))
+        subst (λ (a : After). Keeps (InUnit form) (st .image) (a .image)) (sym (committed-by form st c o e .after)) (stored-unit form (st .image) (headerCommitted c (st .image)) (new-size (st .image) c (guarantees (st .image) c o)))
     by model.Dropped e = absurd (lasts (Commit form) st refl e)
     by model.Refused e = subst (λ (s : State). Keeps (InUnit form) (st .image) (s .image)) (sym (refused (Commit form) st e)) (keeps-refl _ _)
 
@@ -101,10 +87,10 @@ opens-signed after key block signer c o s f = rw (openedSigned, o, s, f, same-re
 
 module _ (W : CallLaws) (st : State) (key : List ℕ) (signer : Signer) (e : ruled (Commit (Signed key signer)) st ≡ Accepted) where
   after-signed : (c : Container) → opened (st .image) ≡ opening.Valid c
-      → (d : Container) × (openedSigned (committedSigned c (st .image) key signer) key signer ≡ opening.Valid d)
+      → (d : Container) × (openedSigned (landedImage (Signed key signer) c (st .image)) key signer ≡ opening.Valid d)
   after-signed c o =
       let b = committed-by (Signed key signer) st c o e in
-      let after = committedSigned c (st .image) key signer in
+      let after = landedImage (Signed key signer) c (st .image) in
       let w = W .units (st .image) c o (Signed key signer) in
       let s = W .commit (st .image) c o (staged-table c (st .image) (st .session) (b .current)) after w in
       let g = guarantees (st .image) c o in
@@ -116,7 +102,7 @@ module _ (W : CallLaws) (st : State) (key : List ℕ) (signer : Signer) (e : rul
       ∙ signs-too (c .header .kind) signer (headerBytes (st .image)) (headerBytes after) (first .0) own in (
         s .container,
         opens-signed after key _ signer (s .container) (s .opens) now
-            (signed-front (st .image) c g key signer ∙ ap (signature key signer) (sym (w .header))),
+            (stored-code (st .image) (headerCommitted c (st .image)) (g .shortest) (new-size (st .image) c g) key signer ∙ ap (signature key signer) (sym (w .header))),
       )
 
   opens-after : (c : Container) × (openedSigned (next (Commit (Signed key signer)) st .image) key signer ≡ opening.Valid c)

@@ -2,7 +2,6 @@
 -- session does the same and steps back. Assumes nothing.
 use mathlib.Core.Path.{_≡_, refl, sym, ap, _∙_, subst}
 use mathlib.Core.Bool.{Bool, true, false, _||_, cond}
-use mathlib.Core.Logic.{inl}
 use mathlib.Core.List.{List, [], _∷_}
 use Prim.Native.Nat.{ℕ, zero, suc, _+_, _≤_, _<_}
 use native.Mathlib.Omega.{arith}
@@ -16,12 +15,10 @@ use Rattle.number.specs.Bytes.{bytes}
 use Rattle.number.specs.Blocks.{blockSize, blockOf, blockLength, lastBlock}
 use Rattle.number.proofs.ListLaws.{bytes-is}
 use Rattle.number.proofs.OverlayLaws.{overlay-in}
-use Rattle.number.proofs.FrameLaws.{keeps-refl, keeps-more}
 use Rattle.sha256.specs.Sha256.{sha256}
 use Rattle.layout.specs.declared.Container.{Container}
 use Rattle.layout.specs.declared.Opened.{Opened}
 use Rattle.layout.specs.declared.Opened.the-variants as opening
-use Rattle.layout.specs.declared.Refusal.{Refusal}
 use Rattle.layout.specs.declared.Refusal.the-variants.{OutOfRange}
 use Rattle.layout.specs.Headers.{headerBytes, diffHeader}
 use Rattle.layout.specs.Descriptors.{difiFields, ivfcFields, partitionFields}
@@ -37,21 +34,23 @@ use Rattle.update.specs.Staged.{writtenTo, holdsZero}
 use Rattle.update.specs.Rules.{WriteRules}
 use Rattle.update.proofs.ImageLaws.{write-bytes, write-held}
 use Rattle.views.specs.Places.{partitions, slotOf, partitionOf, masterIn, viewIn, stagedView, spaceOf}
-use Rattle.layout.specs.declared.Outcome.{Outcome}
 use Rattle.layout.specs.declared.Outcome.the-variants as outcome
 use Rattle.steps.specs.Reading.{touched, refuseLowest, refuseOutside}
 use Rattle.steps.specs.Sessions.{idle, begunWith, begunImage, current, endsOutcome, writeOutcome}
-use Rattle.steps.specs.Calls.{After, finished, inSession, writeOn, write}
+use Rattle.steps.specs.Calls.{After, finished, goesOn, writeOn, write}
+use Rattle.steps.proofs.EnterLaws.{enters}
 use Rattle.steps.proofs.BeginLaws.{begun-current}
 use Rattle.steps.proofs.WriteLaws.{write-rules}
 use Rattle.history.specs.Model.{Plain, Call, Begin, Write, Commit, Accepted, endingOf, Did, ruling, Ruling}
 use Rattle.history.specs.Run.{State, perform, ruled, next, after, events, begins, commits}
-use Rattle.history.specs.External.{SomeExternal, LeftBut}
+use Rattle.views.specs.Protected.{AgreesBut}
+use Rattle.history.specs.External.{InPlaceOf, SomeExternal}
+use Rattle.history.proofs.Agreeing.{left-more, left-agrees, agrees-refl}
 use Rattle.history.specs.Theorem.{Start}
 use Rattle.history.specs.Term.{ruledRevert, Happening, Do, Revert, Crash, foundAfter, Premise, pastAfter, atFirst, pastFirst}
 use Rattle.history.proofs.CallCases.{landedImage, begun-by, written-by, committed-by, idle-rests}
 use Rattle.history.proofs.Begins as laws
-use Rattle.history.proofs.Following.{staged-table}
+use Rattle.history.proofs.Currents.{staged-table}
 use Rattle.history.proofs.Units.{headed}
 use Rattle.history.proofs.Commits.{switched, after-opens}
 use Rattle.history.proofs.Demand.{demand3}
@@ -122,10 +121,9 @@ abbrev pub written : Call
 written = Write 0 0 (replicate 32 7)
 
 -- where 32 bytes from 0 on touch block 0 alone, a test that holds there refuses nothing
-passes : (P : ℕ → Bool) (refusal : ℕ → Refusal) (view : View) (rest : Outcome) → blockOf (view .level4) 0 ≡ 0 → touched (view .level4) 0 32 ≡ 1 → P 0 ≡ true
-    → refuseLowest P refusal view 0 32 rest ≡ rest
+passes : (P : ℕ → Bool) (view : View) → blockOf (view .level4) 0 ≡ 0 → touched (view .level4) 0 32 ≡ 1 → P 0 ≡ true → refuseLowest P view 0 32 ≡ outcome.Accepted
 unfolding refuseLowest firstNot
-passes P refusal view rest b t p = rw (b, t, p)
+passes P view b t p = rw (b, t, p)
 
 -- they cover it
 module _ (l : Level) (s : l .size ≡ 32) (k : l .log ≡ 5) where
@@ -152,7 +150,9 @@ write-accepted : (st : State) (c : Container) (q place : ℕ) (bytes : List ℕ)
     → holdsZero (stagedView c q) place bytes (writtenTo (stagedView c q) place bytes (st .image)) ≡ false → ruled (Write q place bytes) st ≡ Accepted
 unfolding perform write finished
 write-accepted st c q place bytes o b k t w z =
-    ap (λ (x : Opened). endingOf (inSession (st .image) (st .session) (writeOn (st .image) (st .session) q place bytes) x .outcome)) o ∙ rw (z, w, k, b, t)
+    ap (λ (x : Opened). endingOf (goesOn (st .image) (st .session) (writeOn (st .image) (st .session) q place bytes) x .outcome))
+    (sym (enters (st .image) (st .session) (opened (st .image)) refl c o b k))
+    ∙ rw (z, w, t)
 
 -- ---- a session on an image that opens so: a begin, that write and a commit are accepted
 
@@ -172,7 +172,7 @@ module _ (image : List ℕ) (c : Container) (o : opened image ≡ opening.Valid 
 
   pub begin-there : ruled Begin (idleOn image) ≡ Accepted
   unfolding after
-  begin-there = demand3 .progress .idle 0 (idleOn image) start [] idle-rests
+  begin-there = demand3 .progress (idleOn image) c o idle-rests [] .idle idle-rests
 
   -- what it leaves
   abbrev begunState : State
@@ -183,7 +183,9 @@ module _ (image : List ℕ) (c : Container) (o : opened image ≡ opening.Valid 
   begun-is = ap (λ (a : After). record { image = a .image; session = a .session }) (begun-by image idle c o begin-there .after)
 
   begun-opens : opened (begunImage c image) ≡ opening.Valid c
-  begun-opens = demand3 .crash .answers image (begunImage c image) c [] o (keeps-more (λ i f. inl f) (laws.begins image c o .stores)) .opening Plain ∙ o
+  begun-opens =
+      demand3 .crash .answers image (begunImage c image) c [] o
+      (left-agrees (InPlaceOf c []) image (begunImage c image) c o (left-more (InPlaceOf c []) c image (begunImage c image) (laws.begins image c o .stores))) .opening Plain ∙ o
 
   abbrev view : View
   view = stagedView c 0
@@ -200,7 +202,7 @@ module _ (image : List ℕ) (c : Container) (o : opened image ≡ opening.Valid 
   unfolding writeOutcome endsOutcome refuseOutside
   outcome-there =
       ap (λ (n : ℕ). cond (leb 32 n) (endsOutcome view (begunImage c image) 0 32) (outcome.Refused OutOfRange)) size4
-      ∙ passes _ _ view _ (first-block (view .level4) size4 log4) (touched-one (view .level4) size4 log4)
+      ∙ passes _ view (first-block (view .level4) size4 log4) (touched-one (view .level4) size4 log4)
       (ap (λ (t : Bool). t || verified view (begunImage c image) 4 0) (covered-one (view .level4) size4 log4))
 
   abbrev afterWrite : List ℕ
@@ -242,7 +244,7 @@ module _ (image : List ℕ) (c : Container) (o : opened image ≡ opening.Valid 
 
   pub commit-there : ruled (Commit Plain) (before image) ≡ Accepted
   unfolding after
-  commit-there = demand3 .progress .begun 0 (idleOn image) start (Begin ∷ written ∷ []) begun-there .0
+  commit-there = demand3 .progress (idleOn image) c o idle-rests (Begin ∷ written ∷ []) .begun begun-there .0
 
   -- the image that it leaves opens so too
   written-opens : opened (before image .image) ≡ opening.Valid c
@@ -288,13 +290,13 @@ smallTerm = Do Begin ∷ Do written ∷ Do (Commit Plain) ∷ Crash landedSmall 
 -- its premise holds
 pub small-premise : Premise smallTerm (atFirst smallImage)
 unfolding Premise
-small-premise = (tt, (tt, (tt, (left, (tt, (tt, (tt, (tt, tt))))))))
+small-premise = (tt, (tt, (tt, (left _, (tt, (tt, (tt, (tt, tt))))))))
   where
-    left : (c : Container) → opened (foundAfter (Commit Plain) (ruled (Commit Plain) (before smallImage)) smallImage landedSmall) ≡ opening.Valid c
-        → LeftBut (SomeExternal c) c (foundAfter (Commit Plain) (ruled (Commit Plain) (before smallImage)) smallImage landedSmall) landedSmall
-    left c o =
-        subst (λ (r : Ruling). LeftBut (SomeExternal c) c (foundAfter (Commit Plain) r smallImage landedSmall) landedSmall)
-        (sym (commit-there smallImage smallContainer small-opens small)) (keeps-refl _ _)
+    left : (found : List ℕ) (c : Container) → opened (foundAfter (Commit Plain) (ruled (Commit Plain) (before smallImage)) found landedSmall) ≡ opening.Valid c
+        → AgreesBut (SomeExternal c) c (foundAfter (Commit Plain) (ruled (Commit Plain) (before smallImage)) found landedSmall) landedSmall
+    left found c o =
+        subst (λ (r : Ruling). AgreesBut (SomeExternal c) c (foundAfter (Commit Plain) r found landedSmall) landedSmall)
+        (sym (commit-there smallImage smallContainer small-opens small)) (agrees-refl (SomeExternal c) c landedSmall)
 
 -- each call of the second session is accepted, and so is the revert
 landed-small : opened landedSmall ≡ opening.Valid (switched smallContainer)

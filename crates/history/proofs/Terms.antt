@@ -21,12 +21,13 @@ use Rattle.steps.specs.Calls.{After}
 use Rattle.history.specs.Model.{laidOver, Form, Call, Ask, Begin, Write, Commit, Abandon, Ruling, Accepted, Refused, Dropped, Did, Model, advance}
 use Rattle.views.specs.Versions.{Version, versionOf}
 use Rattle.history.specs.Run.{State, perform, ruled, next, commitOf}
-use Rattle.history.specs.Theorem.{Has, committedIn}
-use Rattle.history.specs.External.{SomeExternal, LeftBut}
+use Rattle.history.specs.Theorem.{Has, thereOf}
+use Rattle.history.specs.External.{SomeExternal, committedOf}
 use Rattle.history.specs.Term.{ruledRevert, nextRevert, givenBack, Happening, Do, Revert, Crash, Moment, foundAfter, foundReverted, onward, Possible, Past, appended, removed, revertedPast, recorded, momentAfter, pastAfter, Premise, atFirst, pastFirst, TermTheorem}
+use Rattle.history.proofs.Agreeing.{LeftBut, agrees-left}
 use Rattle.history.proofs.CallCases.{not-both, refused, begun-by, written-by, abandoned-by, idle-rests, ended-by, lasts}
 use Rattle.history.proofs.CallLaws.{CallLaws}
-use Rattle.history.proofs.Following.{Agrees, step, answers, follows-of}
+use Rattle.history.proofs.Following.{Mirrors, step, answers, follows-of}
 use Rattle.history.proofs.Crashing.{by-outer, spares-event}
 use Rattle.history.proofs.Outers.{still-opens, internal-stays, free-stays}
 use Rattle.history.proofs.Calls.{call-laws}
@@ -40,17 +41,17 @@ pub record Restores (p : ℕ) (image : List ℕ) (older : List Version) : Type 0
   pub rest : List Version
   pub list : older ≡ version ∷ rest
   pub has : Has image p
-  pub committed : committedIn has ≡ version
+  pub committed : committedOf (thereOf has) ≡ version
 
 abbrev Remembers : (p : ℕ) → State → List Version → Type 0
 Remembers p st older = (form : Form) → ruledRevert form st ≡ Accepted → Restores p (nextRevert form st .image) older
 
 -- what holds at each moment
 pub record Holds (p : ℕ) (m : Moment) (past : Past) : Type 0 where
-  pub agrees : Agrees p (m .state) (past .model)
+  pub mirrors : Mirrors p (m .state) (past .model)
   -- the image that the session found shows the newest version, and the present one has its bytes where they are neither free nor external
   pub origin : Has (m .found) p
-  pub newest : committedIn origin ≡ past .model .committed
+  pub newest : committedOf (thereOf origin) ≡ past .model .committed
   pub left : LeftBut (SomeExternal (origin .container)) (origin .container) (m .found) (m .state .image)
   pub memory : Remembers p (m .state) (past .older)
 
@@ -97,7 +98,7 @@ module _ (image left : List ℕ) (c : Container) (o : opened image ≡ opening.V
   version-left = internal-stays image left c g' (SomeExternal c) (λ i w. w) k
 
   stays-loose : (i : ℕ) → Free (spaceOf c) left i ⊎ SomeExternal c i → Free (spaceOf c) image i ⊎ SomeExternal c i
-  stays-loose i (inl f) = inl (free-stays image left c g' (SomeExternal c) (λ i w. w) k i f)
+  stays-loose i (inl f) = inl (free-stays image left c g' (SomeExternal c) (λ i w. w) k i .0 f)
   stays-loose i (inr w) = inr w
 
 module _ (W : CallLaws) where
@@ -106,21 +107,21 @@ module _ (W : CallLaws) where
     st = m .state
 
     abbrev c : Container
-    c = g .agrees .has .container
+    c = g .mirrors .has .container
 
     memory-after : (call : Call) (r : Ruling) → ruled call st ≡ r → commitOf (Did call r) ≡ 0 → Remembers p (next call st) (past .older)
     unfolding perform
     memory-after (Ask query) Accepted e z = g .memory
     memory-after Begin Accepted e z =
         unremembered p (next Begin st) (past .older)
-        (ap (λ (a : After). a .session .begun) (begun-by (st .image) (st .session) c (g .agrees .has .opens) e .after))
+        (ap (λ (a : After). a .session .begun) (begun-by (st .image) (st .session) c (g .mirrors .has .opens) e .after))
     memory-after (Write q place bytes) Accepted e z =
-        let b = written-by (st .image) (st .session) c (g .agrees .has .opens) q place bytes e in
+        let b = written-by (st .image) (st .session) c (g .mirrors .has .opens) q place bytes e in
         unremembered p (next (Write q place bytes) st) (past .older) (ap (λ (a : After). a .session .begun) (b .after) ∙ b .finish .begun)
     memory-after (Commit form) Accepted e z = absurd (omega arith)
     memory-after Abandon Accepted e z = forgotten p (st .image) _ (past .older) (abandoned-by (st .session) e .1)
     memory-after (Write q place bytes) Dropped e z =
-        let b = ended-by (st .image) (st .session) c (g .agrees .has .opens) q place bytes e in
+        let b = ended-by (st .image) (st .session) c (g .mirrors .has .opens) q place bytes e in
         forgotten p (next (Write q place bytes) st .image) (next (Write q place bytes) st .session) (past .older) (ap (λ (a : After). a .session) (b .after))
     memory-after (Ask query) Dropped e z = absurd (lasts (Ask query) st refl e)
     memory-after Begin Dropped e z = absurd (lasts Begin st refl e)
@@ -134,7 +135,7 @@ module _ (W : CallLaws) where
     goes-on call r e z =
         let o = g .origin in
         record {
-          agrees = subst (λ (x : Ruling). Agrees p (next call st) (advance p call x (past .model))) e (step W p st (past .model) (g .agrees) call);
+          mirrors = subst (λ (x : Ruling). Mirrors p (next call st) (advance p call x (past .model))) e (step W p st (past .model) (g .mirrors) call);
           origin = o;
           newest = g .newest ∙ sym (same-newest p call r (past .model) z);
           left = keeps-trans (stays-loose (m .found) (st .image) (o .container) (o .opens) (g .left)) (g .left)
@@ -146,7 +147,7 @@ module _ (W : CallLaws) where
     restores : (form back : Form) → ruled (Commit form) st ≡ Accepted → ruledRevert back (next (Commit form) st) ≡ Accepted
         → Restores p (nextRevert back (next (Commit form) st) .image) (past .model .committed ∷ past .older)
     restores form back e a =
-        let h = g .agrees .has in
+        let h = g .mirrors .has in
         let given = givenBack form back (st .image) (next (Commit form) st .image) in
         let k = given-front form back st e in
         subst (λ (x : State). Restores p (x .image) (past .model .committed ∷ past .older)) (sym (after-commit form back st e a)) (record {
@@ -154,47 +155,27 @@ module _ (W : CallLaws) where
           rest = past .older;
           list = refl;
           has = record { container = h .container; opens = front-opened (st .image) given k ∙ h .opens; there = h .there; internal = h .internal };
-          committed = front-version (st .image) given k (committedView (h .container) p) (committed-past (st .image) (h .container) (guarantees (st .image) (h .container) (h .opens)) p (h .there)) ∙ g .agrees .committed;
+          committed = front-version (st .image) given k (committedView (h .container) p) (committed-past (st .image) (h .container) (guarantees (st .image) (h .container) (h .opens)) p (h .there)) ∙ g .mirrors .committed;
         })
 
     lands : (form : Form) → ruled (Commit form) st ≡ Accepted
         → Holds p (record { state = next (Commit form) st; found = next (Commit form) st .image })
         (record { model = advance p (Commit form) Accepted (past .model); older = past .model .committed ∷ past .older })
     lands form e =
-        let a : Agrees p (next (Commit form) st) (advance p (Commit form) Accepted (past .model)) =
-        subst (λ (x : Ruling). Agrees p (next (Commit form) st) (advance p (Commit form) x (past .model))) e (step W p st (past .model) (g .agrees) (Commit form)) in
-        record { agrees = a; origin = a .has; newest = a .committed; left = keeps-refl _ _; memory = λ back b. restores form back e b }
+        let a : Mirrors p (next (Commit form) st) (advance p (Commit form) Accepted (past .model)) =
+        subst (λ (x : Ruling). Mirrors p (next (Commit form) st) (advance p (Commit form) x (past .model))) e (step W p st (past .model) (g .mirrors) (Commit form)) in
+        record { mirrors = a; origin = a .has; newest = a .committed; left = keeps-refl _ _; memory = λ back b. restores form back e b }
 
     called : (call : Call) (r : Ruling) → ruled call st ≡ r
         → Holds p (record { state = next call st; found = foundAfter call r (m .found) (next call st .image) })
         (record { model = advance p call r (past .model); older = appended call r (past .model .committed) (past .older) })
     called (Commit form) Accepted e = lands form e
-    called (Ask query) r e = goes-on (Ask query) r e (by r)
-      where
-        by : (r : Ruling) → commitOf (Did (Ask query) r) ≡ 0
-        by Accepted = refl
-        by Refused = refl
-        by Dropped = refl
-    called Begin r e = goes-on Begin r e (by r)
-      where
-        by : (r : Ruling) → commitOf (Did Begin r) ≡ 0
-        by Accepted = refl
-        by Refused = refl
-        by Dropped = refl
-    called (Write q place bytes) r e = goes-on (Write q place bytes) r e (by r)
-      where
-        by : (r : Ruling) → commitOf (Did (Write q place bytes) r) ≡ 0
-        by Accepted = refl
-        by Refused = refl
-        by Dropped = refl
-    called (Commit form) Refused e = goes-on (Commit form) Refused e refl
-    called (Commit form) Dropped e = goes-on (Commit form) Dropped e refl
-    called Abandon r e = goes-on Abandon r e (by r)
-      where
-        by : (r : Ruling) → commitOf (Did Abandon r) ≡ 0
-        by Accepted = refl
-        by Refused = refl
-        by Dropped = refl
+    called (Ask query) Accepted e = goes-on (Ask query) Accepted e refl
+    called Begin Accepted e = goes-on Begin Accepted e refl
+    called (Write q place bytes) Accepted e = goes-on (Write q place bytes) Accepted e refl
+    called Abandon Accepted e = goes-on Abandon Accepted e refl
+    called call Refused e = goes-on call Refused e refl
+    called call Dropped e = goes-on call Dropped e refl
 
     -- a revert lands, or is refused
     steps-back : (form : Form) (r : Ruling) → ruledRevert form st ≡ r
@@ -210,7 +191,7 @@ module _ (W : CallLaws) where
         by (v ∷ older) r =
             let same : r .version ≡ v = sym (first-is (r .list)) in
             record {
-              agrees = record { has = r .has; committed = r .committed ∙ same; staged = ap (λ (s : Session). s .begun) session-is ∙ idle-rests };
+              mirrors = record { has = r .has; committed = r .committed ∙ same; staged = ap (λ (s : Session). s .begun) session-is ∙ idle-rests };
               origin = r .has;
               newest = r .committed ∙ same;
               left = keeps-refl _ _;
@@ -223,11 +204,11 @@ module _ (W : CallLaws) where
     crashes : (left : List ℕ) → Possible (Crash left) m → Holds p (onward (Crash left) m) (recorded p (Crash left) m past)
     crashes left k =
         let o = g .origin in
-        let l = k (o .container) (o .opens) in
+        let l = agrees-left (SomeExternal (o .container)) (m .found) left (o .container) (o .opens) (k (o .container) (o .opens)) in
         let h : Has left p = record { container = o .container; opens = opens-left (m .found) left (o .container) (o .opens) l; there = o .there; internal = o .internal } in
-        let v : committedIn h ≡ past .model .committed = version-left (m .found) left (o .container) (o .opens) l p (o .there) (o .internal) ∙ g .newest in
+        let v : committedOf (thereOf h) ≡ past .model .committed = version-left (m .found) left (o .container) (o .opens) l p (o .there) (o .internal) ∙ g .newest in
         record {
-          agrees = record { has = h; committed = v; staged = idle-rests };
+          mirrors = record { has = h; committed = v; staged = idle-rests };
           origin = h;
           newest = v;
           left = keeps-refl _ _;
@@ -246,7 +227,7 @@ module _ (W : CallLaws) where
 
   holds-first : (p : ℕ) (image : List ℕ) (has : Has image p) → Holds p (atFirst image) (pastFirst has)
   holds-first p image has = record {
-    agrees = record { has = has; committed = refl; staged = idle-rests };
+    mirrors = record { has = has; committed = refl; staged = idle-rests };
     origin = has;
     newest = refl;
     left = keeps-refl _ _;
@@ -261,8 +242,8 @@ module _ (W : CallLaws) where
 
   pub term : TermTheorem
   term p image has run a = record {
-    follows = λ before rest e. follows-of W p _ _ (at before rest e .agrees);
-    answers = λ before rest call answer e. answers W p _ _ (at before rest e .agrees) call answer;
+    follows = λ before rest e. follows-of W p _ _ (at before rest e .mirrors);
+    answers = λ before rest call answer e. answers W p _ _ (at before rest e .mirrors) call answer;
   }
     where
       at : (before rest : List Happening) → run ≡ before ++ rest → Holds p (momentAfter before (atFirst image)) (pastAfter p before (atFirst image) (pastFirst has))

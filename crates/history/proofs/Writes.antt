@@ -19,8 +19,7 @@ use Rattle.number.proofs.OverlayLaws.{within-in}
 use Rattle.number.proofs.FrameLaws.{keeps-more}
 use Rattle.layout.specs.declared.Container.{Container}
 use Rattle.layout.specs.declared.Opened.the-variants as opening
-use Rattle.layout.specs.Tables.{active, inactive}
-use Rattle.layout.proofs.FrameLaws.{agree-part}
+use Rattle.layout.specs.Tables.{inactive}
 use Rattle.layout.specs.Opening.{opened}
 use Rattle.layout.specs.Guarantees.{Guarantees}
 use Rattle.layout.proofs.GuaranteeLaws.{guarantees}
@@ -35,17 +34,18 @@ use Rattle.views.specs.Places.{partitions, slotOf, partitionOf, treeOf, viewIn,
 use Rattle.steps.proofs.WriteLaws.{write-rules}
 use Rattle.views.proofs.PlaceLaws.{second-there, third-missing, staged-rules, staged-master, tree-among}
 use Rattle.layout.specs.declared.Outcome.the-variants as outcome
-use Rattle.steps.specs.Sessions.{stagedTable, inMaster, inSomeMaster, tableStaged, writeOutcome, selectorFlipped, forEach}
+use Rattle.steps.specs.Sessions.{stagedTable, inMaster, inSomeMaster, tableStaged, writeOutcome}
 use Rattle.history.specs.Model.{marked, laidOver}
 use Rattle.views.specs.Versions.{flags, versionOf}
 use Rattle.views.specs.Protected.{ExternalByte, Protected}
 use Rattle.views.proofs.ProtectedLaws.{protected-not-free, same-or-apart, external-inside}
-use Rattle.history.specs.External.{InPlace, LeftBut}
+use Rattle.history.specs.External.{InPlace}
+use Rattle.history.proofs.Agreeing.{LeftBut}
 use Rattle.views.proofs.FlagLaws.{flags-cong}
 use Rattle.history.proofs.CallLaws.{WriteLaws}
 use Rattle.history.proofs.LaidLaws.{put-bytes}
 use Rattle.history.proofs.Seen.{SameSeen, same-version}
-use Rattle.history.proofs.Outers.{place-outer, active-stays}
+use Rattle.history.proofs.Outers.{place-outer, staged-stays}
 use Rattle.history.proofs.Tables.{place-of, descriptors-apart, trees-apart, staged-byte, in-table}
 use Rattle.steps.proofs.BelowLaws.{below-all}
 
@@ -107,10 +107,7 @@ module _ (image : List ℕ) (c : Container) (o : opened image ≡ opening.Valid 
   stores = keeps-more (λ i. elim [ inl f ↦ inl f | inr x ↦ inr (in-place i x) ]) (write-stores (spaceOf c) (stagedView c q) image place values write)
 
   staged-same : stagedTable c after ≡ stagedTable c image
-  unfolding stagedTable
-  staged-same =
-      ap (forEach c (selectorFlipped c))
-      (agree-part after image (active (c .header)) (stores .size) (λ i a b. active-stays image after c g Written (place-outer c q place (length values)) stores i (a, b)))
+  staged-same = staged-stays image after c g Written (place-outer c q place (length values)) stores
 
   version : holdsZero (stagedView c q) place values after ≡ false → versionOf (stagedView c q) after ≡ laidOver place values (versionOf (stagedView c q) image)
   version z =

@@ -4,26 +4,27 @@ use mathlib.Core.Path.{_≡_}
 use Prim.Native.Nat.{ℕ, _+_, _≤_, _<_}
 use mathlib.Core.Bool.{Bool, true, false, _&&_, _||_}
 use mathlib.Core.List.{List, [], _∷_, _++_}
-use mathlib.Core.Logic.{_⊎_}
+use mathlib.Core.Logic.{_⊎_, _↔_}
 use mathlib.Core.Option.{Option, none, some}
 use lib.ListN.{length, getD}
 use lib.Dec.{eqb}
 use Rattle.number.specs.declared.Level.{Level}
 use Rattle.number.specs.Blocks.{blocks, blockOf, touches}
-use Rattle.number.specs.Frame.{Keeps}
 use Rattle.layout.specs.declared.Container.{Container}
 use Rattle.layout.specs.declared.Opened.the-variants as opening
 use Rattle.layout.specs.Opening.{opened}
-use Rattle.dpfs.specs.Free.{InRange, Free}
+use Rattle.dpfs.specs.Free.{InRange}
 use Rattle.ivfc.specs.Views.{levelOf, contentOf, verified}
-use Rattle.views.specs.Places.{partitions, slotOf, partitionOf, committedView, stagedView, spaceOf}
-use Rattle.views.specs.Protected.{ExternalByte, Protected}
+use Rattle.views.specs.Places.{partitions, slotOf, partitionOf, externalIn, committedView, stagedView}
+use Rattle.views.specs.Protected.{ExternalByte, AgreesBut}
 use Rattle.signing.specs.declared.Signer.{Signer}
 use Rattle.signing.specs.Calls.{signed}
-use Rattle.steps.specs.Calls.{readCommitted, isVerified, countVerified}
+use Rattle.steps.specs.Calls.{readCommitted, readStaged, isVerified, countVerified}
+use Rattle.faults.specs.declared.Fault.{Fault}
 use Rattle.faults.specs.Faults.{faults, countFaults}
+use Rattle.faults.specs.Laws.{Listed}
 use Rattle.save.specs.Calls.{listNames, findFile}
-use Rattle.history.specs.Model.{readOf, Form, Call, Ask, Begin, Write, Commit, Abandon, Accepted, Refused, Dropped, Event, Did, Model, followed}
+use Rattle.history.specs.Model.{readOf, readStagedOf, judgedOf, Form, Call, Ask, Begin, Write, Commit, Abandon, Accepted, Refused, Dropped, Event, Did, Model, followed}
 use Rattle.views.specs.Versions.{Version, versionOf}
 use Rattle.history.specs.Run.{State, openedAs, after, events, begins, commits, Put, putBy}
 
@@ -33,7 +34,7 @@ use Rattle.history.specs.Run.{State, openedAs, after, events, begins, co
 unfoldable pub InPlace : Container → (q place n : ℕ) → (i : ℕ) → Type 0
 InPlace c q place n i =
     (q < partitions c) × ExternalByte c q i
-    × InRange (record { offset = slotOf c q .partition .offset + partitionOf c q .difi .outside + place; size = n }) i
+    × InRange (record { offset = externalIn (slotOf c q) (partitionOf c q) .offset + place; size = n }) i
 
 -- what a write stores of its bytes in partition p: all of them if it is accepted, and all of them too if it is dropped (17), which comes last
 abbrev pub storedBy : (p : ℕ) → Event → Option Put
@@ -48,14 +49,6 @@ InPlaceBy c e i = (q : ℕ) × (put : Put) × (storedBy q e ≡ some put) × InP
 unfoldable pub InPlaceOf : Container → List Event → (i : ℕ) → Type 0
 InPlaceOf c [] i = ⊥
 InPlaceOf c (e ∷ rest) i = InPlaceBy c e i ⊎ InPlaceOf c rest i
-
--- 01's list of the bytes that only commit changes leaves out exactly these
-abbrev pub ProtectedBut : (W : ℕ → Type 0) → Container → List ℕ → (i : ℕ) → Type 0
-ProtectedBut W c image i = Protected c image i × (W i → ⊥)
-
--- an image that has another one's bytes where they are neither free nor in W
-abbrev pub LeftBut : (W : ℕ → Type 0) → Container → (image left : List ℕ) → Type 0
-LeftBut W c image left = Keeps (λ i. Free (spaceOf c) image i ⊎ W i) image left
 
 -- a byte of some external level 4
 abbrev pub SomeExternal : Container → (i : ℕ) → Type 0
@@ -76,8 +69,9 @@ Untouched c list q b = partitionOf c q .difi .external ≡ true → TouchedOf q 
 
 -- ---- power failure
 
--- opening and signing answer alike, under every key and signer, so do the names of a save, whose level 4 is internal, and so do the committed
--- reads and questions of every partition, and the fault list, but of blocks that the list wrote to in place
+-- opening and signing answer alike, under every key and signer, and so do the names of a save, whose level 4 is internal; the committed reads and
+-- questions of every partition, and its faults, do so but of the blocks that the list wrote to in place. Where it wrote to none, so do the counts, and
+-- the fault list as a whole
 pub record SameAnswersBut (c : Container) (list : List Event) (image left : List ℕ) : Type 0 where
   pub opening : (form : Form) → openedAs form left ≡ openedAs form image
   pub reads : (q place : ℕ) (buffer : List ℕ)
@@ -85,6 +79,8 @@ pub record SameAnswersBut (c : Container) (list : List Event) (image left : List
       → readCommitted left q place buffer ≡ readCommitted image q place buffer
   pub questions : (q b : ℕ) → Untouched c list q b → isVerified left q b ≡ isVerified image q b
   pub counts : (q : ℕ) → ((b : ℕ) → Untouched c list q b) → countVerified left q ≡ countVerified image q
+  -- a fault of a hash level, or of a block of level 4 that the list did not write to, is in both fault lists or in neither
+  pub faulty : (f : Fault) → (f .level ≡ 4 → Untouched c list (f .partition) (f .block)) → Listed f (faults left) ↔ Listed f (faults image)
   pub faultCount : ((q b : ℕ) → Untouched c list q b) → countFaults left ≡ countFaults image
   pub faultList : ((q b : ℕ) → Untouched c list q b) → faults left ≡ faults image
   pub signing : (signer : Signer) → signed left signer ≡ signed image signer
@@ -93,7 +89,7 @@ pub record SameAnswersBut (c : Container) (list : List Event) (image left : List
 
 pub record InPlaceTheorem : Type 0 where
   -- a block that was written to in place is read by its bytes as they are and by the committed entries: the committed hash levels stay
-  pub entries : (image left : List ℕ) (c : Container) (list : List Event) → opened image ≡ opening.Valid c → LeftBut (InPlaceOf c list) c image left
+  pub entries : (image left : List ℕ) (c : Container) (list : List Event) → opened image ≡ opening.Valid c → AgreesBut (InPlaceOf c list) c image left
       → (q : ℕ) → q < partitions c → (i y : ℕ) → i ≤ 3 → y < levelOf (committedView c q) i .size
       → contentOf (committedView c q) left i y ≡ contentOf (committedView c q) image i y
 
@@ -183,10 +179,17 @@ looseAfter p st start calls = loosenedBy p (isExternal (start .has)) (levelOfThe
 pub record EitherHistory (p : ℕ) (st : State) (start : StartThere p st) (calls : List Call) : Type 0 where
   -- after each call of the list
   pub follows : (before rest : List Call) → calls ≡ before ++ rest → FollowsBut (looseAfter p st start before) p (after before st) (modelOf p st start before)
-  -- a committed read that touches only blocks in which the committed view is not loose gives the model's bytes, or 10 as the model says
+  -- a committed read that touches only blocks in which the committed view is not loose gives the model's bytes, or 10 as the model says; and so
+  -- does a staged one, with 13 while nothing is staged
   pub reads : (before rest : List Call) (place : ℕ) (buffer : List ℕ) → calls ≡ before ++ rest
       → ((b : ℕ) → touches (levelOfThere (start .has)) place (length buffer) b ≡ true → looseAfter p st start before .committed b ≡ false)
       → readCommitted (after before st .image) p place buffer ≡ readOf (modelOf p st start before .committed) place buffer
+  pub stagedReads : (before rest : List Call) (place : ℕ) (buffer : List ℕ) → calls ≡ before ++ rest
+      → ((b : ℕ) → touches (levelOfThere (start .has)) place (length buffer) b ≡ true → looseAfter p st start before .staged b ≡ false)
+      → readStaged (after before st .image) (after before st .session) p place buffer ≡ readStagedOf (modelOf p st start before .staged) place buffer
+  -- and the question of such a block is answered as the model says
+  pub questions : (before rest : List Call) (b : ℕ) → calls ≡ before ++ rest → looseAfter p st start before .committed b ≡ false
+      → isVerified (after before st .image) p b ≡ judgedOf (modelOf p st start before .committed) b
   -- in a list with at most one accepted begin the staged view is nowhere loose, and once a commit is accepted the committed one is not either
   pub staged : (before rest : List Call) → calls ≡ before ++ rest → begins (events before st) ≤ 1 → (b : ℕ) → looseAfter p st start before .staged b ≡ false
   pub landed : (before rest : List Call) → calls ≡ before ++ rest → begins (events before st) ≤ 1 → 0 < commits (events before st)

@@ -1,5 +1,5 @@
--- The model (01: the bench book) of one partition with internal level 4. It is fed each call's name, its arguments without image and
--- session, and whether it was accepted; it says what the partition's reads and questions answer.
+-- The model (01: the bench book) of one partition. It is fed each call's name, its arguments without image and session, and whether it was accepted;
+-- it says what the partition's reads and questions answer, where level 4 is internal; of an external one External.antt says in which blocks.
 use Prim.Native.Nat.{ℕ, suc, _+_}
 use mathlib.Core.Bool.{Bool, false, not, _&&_, _||_, cond}
 use mathlib.Core.List.{List, [], _∷_}
@@ -9,8 +9,8 @@ use lib.Seq.{sets}
 use lib.Dec.{leb, ltb, eqb}
 use Rattle.number.specs.Blocks.{touches}
 use Rattle.layout.specs.declared.Opened.{Opened}
-use Rattle.layout.specs.declared.Opened.the-variants as opening
 use Rattle.layout.specs.declared.Refusal.the-variants.{OutOfRange, Unverified, SessionState}
+use Rattle.layout.specs.Refusals.{Said, openedSays, outcomeSays}
 use Rattle.views.specs.Versions.{Version}
 use Rattle.layout.specs.declared.Outcome.{Outcome}
 use Rattle.layout.specs.declared.Outcome.the-variants as outcome
@@ -20,17 +20,16 @@ use Rattle.steps.specs.declared.Count.{Count}
 use Rattle.steps.specs.declared.Count.the-variants as count
 use Rattle.steps.specs.declared.Ending.{Ending}
 use Rattle.steps.specs.declared.Ending.the-variants as ending
+use Rattle.steps.specs.Answers.{verdictSays, countSays}
 use Rattle.steps.specs.Reading.{Read, said}
 use Rattle.steps.specs.Calls.{unread}
 use Rattle.faults.specs.declared.Fault.{Fault}
-use Rattle.save.specs.declared.Listed.{Listed}
-use Rattle.save.specs.declared.Listed.the-variants as listed
 use Rattle.save.specs.declared.Sought.{Sought}
-use Rattle.save.specs.declared.Sought.the-variants as sought
+use Rattle.save.specs.Answers.{listedSays, soughtSays}
 use Rattle.save.specs.Calls.{Names}
 use Rattle.signing.specs.declared.Signer.{Signer}
 use Rattle.signing.specs.declared.Built.{Built}
-use Rattle.signing.specs.declared.Built.the-variants as built
+use Rattle.signing.specs.Calls.{builtSays}
 
 -- ---- a version
 
@@ -73,7 +72,7 @@ pub data Call : Type 0 where
   Commit : Form → Call
   Abandon : Call
 
--- what a call answers, in the types of crate container, and what its buffer or its row holds then
+-- what a call answers, in the types of the public calls, and what its buffer or its row holds then
 pub data Answer : Type 0 where
   Opening : Opened → Answer
   Reading : Read → Answer
@@ -90,37 +89,25 @@ pub data Answer : Type 0 where
 pub data Ruling : Type 0 where
   Accepted Refused Dropped : Ruling
 
-abbrev pub rulingOf : Outcome → Ruling
-rulingOf outcome.Accepted = Accepted
-rulingOf (outcome.Refused r) = Refused
+-- a query that is accepted says 0 in the paper's terms
+abbrev pub ruledBy : Said → Ruling
+ruledBy said = cond (eqb (said .number) 0) Accepted Refused
 
 abbrev pub endingOf : Ending → Ruling
 endingOf ending.Accepted = Accepted
 endingOf (ending.Refused r) = Refused
 endingOf ending.Dropped = Dropped
 
-abbrev pub namesRuling : Listed → Ruling
-namesRuling (listed.Names n) = Accepted
-namesRuling (listed.Refused r) = Refused
-
 abbrev pub ruling : Answer → Ruling
-ruling (Opening (opening.Valid c)) = Accepted
-ruling (Opening (opening.Refused r)) = Refused
-ruling (Reading read) = rulingOf (read .outcome)
-ruling (Judging verdict.Yes) = Accepted
-ruling (Judging verdict.No) = Accepted
-ruling (Judging (verdict.Refused r)) = Refused
-ruling (Counting (count.Blocks n)) = Accepted
-ruling (Counting (count.Refused r)) = Refused
-ruling (Listing (count.Blocks n) row) = Accepted
-ruling (Listing (count.Refused r) row) = Refused
-ruling (Building (built.Bytes n) buffer) = Accepted
-ruling (Building (built.Refused r) buffer) = Refused
-ruling (Digesting outcome buffer) = rulingOf outcome
-ruling (Naming names) = namesRuling (names .answer)
-ruling (Finding (sought.File f)) = Accepted
-ruling (Finding sought.Nothing) = Accepted
-ruling (Finding (sought.Refused r)) = Refused
+ruling (Opening opened) = ruledBy (openedSays opened)
+ruling (Reading read) = ruledBy (outcomeSays (read .outcome))
+ruling (Judging verdict) = ruledBy (verdictSays verdict)
+ruling (Counting count) = ruledBy (countSays count)
+ruling (Listing count row) = ruledBy (countSays count)
+ruling (Building built buffer) = ruledBy (builtSays built)
+ruling (Digesting outcome buffer) = ruledBy (outcomeSays outcome)
+ruling (Naming names) = ruledBy (listedSays (names .answer))
+ruling (Finding sought) = ruledBy (soughtSays sought)
 ruling (Stepping ending) = endingOf ending
 
 -- a call of a list, and whether it was accepted
@@ -190,8 +177,8 @@ unfoldable pub unverified : (p b : ℕ) → List Bool → List Fault
 unverified p b [] = []
 unverified p b (v ∷ rest) = cond v (unverified p (suc b) rest) (record { partition = p; level = 4; block = b } ∷ unverified p (suc b) rest)
 
--- what the model says that a query answers: a read or a question of its partition; of others it says nothing, and of the fault list only which
--- faults of its own level 4 are in it (Theorem's History)
+-- what the model says that a query answers: a read or a question of its partition. Of others it says nothing here: History (Theorem.antt) has which
+-- faults of its own level 4 are listed, and Follows the names of a save
 unfoldable pub says : (p : ℕ) → Model → Query → Option Answer
 says p m (Open form) = none
 says p m (ReadCommitted q place buffer) = cond (eqb q p) (some (Reading (readOf (m .committed) place buffer))) none

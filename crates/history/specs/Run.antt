@@ -1,6 +1,6 @@
 -- Lists of calls, run by the calls' own definitions. A call that takes the image or the session gets it as the calls before left it.
 use Prim.Native.Nat.{ℕ, _+_, _-_}
-use mathlib.Core.Bool.{cond}
+use mathlib.Core.Bool.{Bool, true, false, cond}
 use mathlib.Core.List.{List, [], _∷_}
 use mathlib.Core.Option.{Option, none, some}
 use lib.ListN.{length, getD}
@@ -78,7 +78,7 @@ unfoldable pub events : List Call → State → List Event
 events [] st = []
 events (c ∷ calls) st = Did c (ruled c st) ∷ events calls (next c st)
 
--- how many begins, and how many commits, were accepted
+-- an accepted begin, and an accepted commit, counts as one
 abbrev pub beginOf : Event → ℕ
 beginOf (Did (Ask query) Accepted) = 0
 beginOf (Did Begin Accepted) = 1
@@ -88,15 +88,20 @@ beginOf (Did Abandon Accepted) = 0
 beginOf (Did c Refused) = 0
 beginOf (Did c Dropped) = 0
 
-abbrev pub commitOf : Event → ℕ
-commitOf (Did (Ask query) Accepted) = 0
-commitOf (Did Begin Accepted) = 0
-commitOf (Did (Write q place bytes) Accepted) = 0
-commitOf (Did (Commit form) Accepted) = 1
-commitOf (Did Abandon Accepted) = 0
-commitOf (Did c Refused) = 0
-commitOf (Did c Dropped) = 0
+-- a call is an accepted commit
+abbrev pub lands : Call → Ruling → Bool
+lands (Ask query) Accepted = false
+lands Begin Accepted = false
+lands (Write q place bytes) Accepted = false
+lands (Commit form) Accepted = true
+lands Abandon Accepted = false
+lands c Refused = false
+lands c Dropped = false
 
+abbrev pub commitOf : Event → ℕ
+commitOf (Did c r) = cond (lands c r) 1 0
+
+-- how many of each a list has
 unfoldable pub begins : List Event → ℕ
 begins [] = 0
 begins (e ∷ rest) = beginOf e + begins rest

@@ -3,6 +3,7 @@
 -- performed by the same `perform`, and its versions follow the same model.
 use mathlib.Core.Path.{_≡_}
 use Prim.Native.Nat.{ℕ}
+use mathlib.Core.Bool.{cond}
 use mathlib.Core.List.{List, [], _∷_, _++_}
 use mathlib.Core.Option.{none, some}
 use lib.ListN.{length}
@@ -16,18 +17,19 @@ use Rattle.layout.specs.declared.Refusal.the-variants.{NothingToRevert}
 use Rattle.layout.specs.Headers.{headerBytes}
 use Rattle.layout.specs.Opening.{opened}
 use Rattle.signing.specs.declared.Signer.{Signer}
-use Rattle.signing.specs.Calls.{signed, outcomeOf}
+use Rattle.signing.specs.Calls.{signedHeader, signed, outcomeOf}
 use Rattle.signatures.specs.Signatures.{signatureRange, signature}
+use Rattle.views.specs.Protected.{AgreesBut}
 use Rattle.steps.specs.declared.Ending.the-variants as ending
 use Rattle.steps.specs.Sessions.{idle}
 use Rattle.steps.specs.Calls.{After, readCommitted, isVerified, countVerified, revert, revertSigned}
 use Rattle.faults.specs.Faults.{faults, countFaults}
 use Rattle.save.specs.Calls.{listNames, findFile}
-use Rattle.history.specs.Model.{Form, Plain, Signed, Query, Call, Ask, Begin, Write, Commit, Abandon, Answer, Stepping, Ruling, Accepted, Refused, Dropped, ruling, Model, advance, says}
+use Rattle.history.specs.Model.{Form, Plain, Signed, Query, Call, Ask, Commit, Answer, Stepping, Ruling, Accepted, Refused, Dropped, ruling, Model, advance, says}
 use Rattle.views.specs.Versions.{Version}
-use Rattle.history.specs.Run.{State, Performed, openedAs, stepped, perform, ruled, next, after, events, begins}
-use Rattle.history.specs.Theorem.{Has, committedIn, Follows, InUnit, endedBy}
-use Rattle.history.specs.External.{SomeExternal, LeftBut}
+use Rattle.history.specs.Run.{State, Performed, openedAs, stepped, perform, ruled, next, after, events, begins, lands}
+use Rattle.history.specs.Theorem.{Has, thereOf, Follows, InUnit, endedBy}
+use Rattle.history.specs.External.{SomeExternal, committedOf}
 
 -- ---- a revert
 
@@ -46,10 +48,10 @@ ruledRevert form st = ruling (reverted form st .answer)
 abbrev pub nextRevert : Form → State → State
 nextRevert form st = reverted form st .state
 
--- what a signed one checks last: 15
-abbrev pub fits : Form → List ℕ → Outcome
-fits Plain image = outcome.Accepted
-fits (Signed key signer) image = outcomeOf (signed image signer)
+-- what a signed one checks last: 15, of the header that it restores
+abbrev pub fits : Form → (header : List ℕ) → Outcome
+fits Plain header = outcome.Accepted
+fits (Signed key signer) header = outcomeOf (signedHeader header signer)
 
 -- refusal 21
 abbrev pub refused21 : Answer
@@ -84,7 +86,7 @@ afterCommit form st between = after between (next (Commit form) st)
 -- a revert then, of the same form or the other
 pub record StepsBack (form back : Form) (st : State) (between : List Call) : Type 0 where
   -- a plain one is accepted, and 15 alone stops a signed one
-  pub answer : reverted back (afterCommit form st between) .answer ≡ Stepping (endedBy (fits back (next (Commit form) st .image)))
+  pub answer : reverted back (afterCommit form st between) .answer ≡ Stepping (endedBy (fits back (headerBytes (st .image))))
   -- accepted, it gives back the image that the commit was called on, and leaves an idle session that remembers nothing
   pub leaves : ruledRevert back (afterCommit form st between) ≡ Accepted
       → nextRevert back (afterCommit form st between) ≡ record { image = givenBack form back (st .image) (next (Commit form) st .image); session = idle }
@@ -102,7 +104,10 @@ pub record RevertTheorem : Type 0 where
   pub again : (form back : Form) (st : State) → ruledRevert form st ≡ Accepted → reverted back (nextRevert form st) .answer ≡ refused21
   pub fresh : (form : Form) (image : List ℕ) (c : Container) → opened image ≡ opening.Valid c
       → reverted form (record { image = image; session = idle }) .answer ≡ refused21
-  -- whatever session is handed in, a revert stores to nothing but its unit (a session's header has 256 bytes), and a refused one to nothing
+  -- whatever session is handed in (its header has 256 bytes), after an accepted signed one opening under the same key and signer is accepted
+  pub signs : (key : List ℕ) (signer : Signer) (st : State) → length (st .session .header) ≡ 256 → ruledRevert (Signed key signer) st ≡ Accepted
+      → (c : Container) × (openedAs (Signed key signer) (nextRevert (Signed key signer) st .image) ≡ opening.Valid c)
+  -- a revert stores to nothing but its unit, and a refused one to nothing
   pub stores : (form : Form) (st : State) → length (st .session .header) ≡ 256 → Keeps (InUnit form) (st .image) (nextRevert form st .image)
   pub refused : (form : Form) (st : State) → ruledRevert form st ≡ Refused → nextRevert form st ≡ st
 
@@ -124,13 +129,7 @@ pub record Moment : Type 0 where
 
 -- an accepted commit's header, and an accepted revert's, makes the image that it leaves the one that is found
 abbrev pub foundAfter : Call → Ruling → (found left : List ℕ) → List ℕ
-foundAfter (Ask query) r found left = found
-foundAfter Begin r found left = found
-foundAfter (Write q place bytes) r found left = found
-foundAfter (Commit form) Accepted found left = left
-foundAfter (Commit form) Refused found left = found
-foundAfter (Commit form) Dropped found left = found
-foundAfter Abandon r found left = found
+foundAfter c r found left = cond (lands c r) left found
 
 -- only a write is dropped, and never a revert
 abbrev pub foundReverted : Ruling → (found left : List ℕ) → List ℕ
@@ -147,13 +146,13 @@ onward (Revert form) m = record {
 }
 onward (Crash left) m = record { state = record { image = left; session = idle }; found = left }
 
--- demand 3's premise, for each session and for the header of each revert: a crash leaves an image of the same length that has the bytes which
--- the session found where they are not free (01: it agrees with the list's first image on the bytes that only commit changes). Once a header has
--- landed this is said of the image that it left. The bytes of external level 4s may be any, whether or not they were written to
+-- demand 3's premise, for each session and for the header of each revert: a crash leaves an image of the same length that agrees with the one
+-- which the session found on 01's list of bytes. Once a header has landed this is said of the image that it left. The bytes of external level 4s may
+-- be any, whether or not they were written to
 abbrev pub Possible : Happening → Moment → Type 0
 Possible (Do c) m = Unit {0}
 Possible (Revert form) m = Unit {0}
-Possible (Crash left) m = (c : Container) → opened (m .found) ≡ opening.Valid c → LeftBut (SomeExternal c) c (m .found) left
+Possible (Crash left) m = (c : Container) → opened (m .found) ≡ opening.Valid c → AgreesBut (SomeExternal c) c (m .found) left
 
 -- ---- the versions
 
@@ -164,15 +163,9 @@ pub record Past : Type 0 where
 
 -- an accepted commit appends a version: the model's staged one, which is the last version with the writes laid over
 abbrev pub appended : Call → Ruling → (newest : Version) → List Version → List Version
-appended (Ask query) r newest older = older
-appended Begin r newest older = older
-appended (Write q place bytes) r newest older = older
-appended (Commit form) Accepted newest older = newest ∷ older
-appended (Commit form) Refused newest older = older
-appended (Commit form) Dropped newest older = older
-appended Abandon r newest older = older
+appended c r newest older = cond (lands c r) (newest ∷ older) older
 
--- an accepted revert removes the newest
+-- an accepted revert removes the newest. There always is an older one: it takes a commit of its own session back
 abbrev pub removed : Past → Past
 removed past = by (past .older)
   where
@@ -214,7 +207,7 @@ abbrev pub atFirst : List ℕ → Moment
 atFirst image = record { state = record { image = image; session = idle }; found = image }
 
 abbrev pub pastFirst : {image : List ℕ} {p : ℕ} → Has image p → Past
-pastFirst has = record { model = record { committed = committedIn has; staged = none }; older = [] }
+pastFirst has = record { model = record { committed = committedOf (thereOf has); staged = none }; older = [] }
 
 pub record Term (p : ℕ) (image : List ℕ) (has : Has image p) (run : List Happening) : Type 0 where
   -- at each moment the committed view is the newest version, in every byte of level 4 and in which blocks of it are verified, and the staged view

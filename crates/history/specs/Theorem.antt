@@ -5,7 +5,6 @@ use mathlib.Core.Bool.{Bool, true, false}
 use mathlib.Core.List.{List, [], _∷_, _++_}
 use mathlib.Core.Logic.{_⊎_, _↔_}
 use mathlib.Core.Option.{none, some}
-use Rattle.number.specs.declared.Level.{Level}
 use Rattle.number.specs.Blocks.{blocks, blockOf}
 use Rattle.number.specs.Frame.{Keeps}
 use Rattle.layout.specs.declared.Container.{Container}
@@ -15,20 +14,21 @@ use Rattle.layout.specs.Opening.{opened}
 use Rattle.signatures.specs.Signatures.{signatureRange}
 use Rattle.dpfs.specs.Free.{InRange, Free}
 use Rattle.ivfc.specs.Views.{contentOf, verified}
-use Rattle.views.specs.Places.{partitions, partitionOf, committedView, stagedView, spaceOf}
+use Rattle.views.specs.Places.{partitions, partitionOf, committedView, spaceOf}
+use Rattle.views.specs.Protected.{Protected, AgreesBut}
 use Rattle.layout.specs.declared.Outcome.{Outcome}
 use Rattle.layout.specs.declared.Outcome.the-variants as outcome
 use Rattle.steps.specs.declared.Ending.{Ending}
 use Rattle.steps.specs.declared.Ending.the-variants as ending
-use Rattle.steps.specs.Calls.{readCommitted}
+use Rattle.steps.specs.Calls.{entered, readCommitted}
 use Rattle.faults.specs.Faults.{kept, faults}
 use Rattle.faults.specs.Laws.{ofLevel}
 use Rattle.signing.specs.declared.Signer.{Signer}
 use Rattle.signing.specs.Calls.{signed, outcomeOf}
 use Rattle.history.specs.Model.{Form, Plain, Signed, Query, Call, Ask, Begin, Commit, Abandon, Answer, Stepping, Accepted, Event, Model, followed, unverified, says, Did}
 use Rattle.save.specs.Calls.{holdsSave, namesOf, listNames, fileOf, findFile}
-use Rattle.views.specs.Versions.{Version, versionOf}
-use Rattle.history.specs.External.{InPlaceBy, InPlaceOf, ProtectedBut, LeftBut, SameAnswersBut, There, StartThere}
+use Rattle.views.specs.Versions.{Version}
+use Rattle.history.specs.External.{InPlaceBy, InPlaceOf, SomeExternal, SameAnswersBut, There, StartThere, committedOf, stagedOf, levelOfThere}
 use Rattle.history.specs.Run.{State, openedAs, perform, ruled, next, after, events, begins, commits, lastValue}
 
 -- an image that opens, with a partition p whose level 4 is internal
@@ -43,27 +43,24 @@ pub record Start (p : ℕ) (st : State) : Type 0 where
   pub has : Has (st .image) p
   pub idle : st .session .begun ≡ false
 
--- the version of partition p that an image shows, committed and staged
-abbrev pub committedIn : {image : List ℕ} {p : ℕ} → Has image p → Version
-committedIn {image} {p} has = versionOf (committedView (has .container) p) image
-
-abbrev pub stagedIn : {image : List ℕ} {p : ℕ} → Has image p → Version
-stagedIn {image} {p} has = versionOf (stagedView (has .container) p) image
+-- it is one of either kind, which shows a committed and a staged version (External's committedOf, stagedOf)
+abbrev pub thereOf : {image : List ℕ} {p : ℕ} → Has image p → There image p
+thereOf has = record { container = has .container; opens = has .opens; there = has .there }
 
 -- ---- the history
 
 -- the views are the model's versions, in every byte of level 4 and in which blocks of it are verified
 pub record Follows (p : ℕ) (st : State) (m : Model) : Type 0 where
   pub has : Has (st .image) p
-  pub committed : committedIn has ≡ m .committed
-  pub staged : (v : Version) → m .staged ≡ some v → stagedIn has ≡ v
+  pub committed : committedOf (thereOf has) ≡ m .committed
+  pub staged : (v : Version) → m .staged ≡ some v → stagedOf (thereOf has) ≡ v
   -- where the container is one that holds a save, its names are those of the committed version
   pub names : holdsSave (has .container) ≡ true → (row : List ℕ) → listNames (st .image) row ≡ namesOf (m .committed) row
   pub finds : holdsSave (has .container) ≡ true → (folder : ℕ) (name : List ℕ) → findFile (st .image) folder name ≡ fileOf (m .committed) folder name
 
 -- the model starts with the view under the active table
 abbrev pub modelAfter : (p : ℕ) (st : State) → Start p st → List Call → Model
-modelAfter p st start calls = followed p (events calls st) (record { committed = committedIn (start .has); staged = none })
+modelAfter p st start calls = followed p (events calls st) (record { committed = committedOf (thereOf (start .has)); staged = none })
 
 pub record History (p : ℕ) (st : State) (start : Start p st) (calls : List Call) : Type 0 where
   -- after each call of the list the views are the model's versions
@@ -81,42 +78,39 @@ HistoryTheorem = (p : ℕ) (st : State) (start : Start p st) (calls : List Call)
 
 -- ---- power failure
 
--- Power may fail between any two calls or inside one. Until the unit of a commit lands, whole and last, the image that is left is any that
--- agrees with the list's first one on the bytes that are neither free nor written in place by the list; once it has landed, it is the one that the
--- commit left. The unit of a plain commit is its header, 0x100 to 0x1FF; that of a signed one the first 0x200 bytes.
+-- Power may fail between any two calls or inside one. Until the unit of a commit lands, whole and last, the image that is left is any of the same
+-- length that agrees with the list's first one on 01's list of bytes (`Protected`), but for those that the list wrote in place; once it has landed, it
+-- is the one that the commit left. The unit of a plain commit is its header, 0x100 to 0x1FF; that of a signed one the first 0x200 bytes.
 
 pub record CrashTheorem : Type 0 where
-  -- the bytes that are neither free nor written in place by a list are those of 01's list of what only commit changes, without the latter
-  pub protects : (image : List ℕ) (c : Container) (list : List Event) → opened image ≡ opening.Valid c → (i : ℕ)
-      → ProtectedBut (InPlaceOf c list) c image i ↔ ((Free (spaceOf c) image i ⊎ InPlaceOf c list i) → ⊥)
-  -- whichever of the stores to free bytes, and in place, have landed, the image that is left answers as the first did, but of the blocks that the list
-  -- wrote to in place
-  pub answers : (image left : List ℕ) (c : Container) (list : List Event) → opened image ≡ opening.Valid c → LeftBut (InPlaceOf c list) c image left
+  -- whichever stores have landed, the image that is left answers as the first did, but of the blocks that the list wrote to in place
+  pub answers : (image left : List ℕ) (c : Container) (list : List Event) → opened image ≡ opening.Valid c → AgreesBut (InPlaceOf c list) c image left
       → SameAnswersBut c list image left
-  -- and until a commit is accepted, no list stores to any other byte
+  -- and until a commit is accepted, a list leaves such an image
   pub stores : (st : State) (calls : List Call) (c : Container) → opened (st .image) ≡ opening.Valid c → commits (events calls st) ≡ 0
-      → LeftBut (InPlaceOf c (events calls st)) c (st .image) (after calls st .image)
+      → AgreesBut (InPlaceOf c (events calls st)) c (st .image) (after calls st .image)
 
 -- what a commit stores of its unit: the header, and the signature where it is signed; the bytes from 0x10 to 0xFF are left alone
 abbrev pub InUnit : Form → (i : ℕ) → Type 0
 InUnit Plain i = InRange headerRange i
 InUnit (Signed key signer) i = InRange signatureRange i ⊎ InRange headerRange i
 
--- no call but commit, plain or signed, stores to a byte that is neither free nor written in place, whatever session value is handed in; none stores
--- to an image that does not open
+-- whatever session value is handed in, no call but commit, plain or signed, changes a byte of 01's list, but for those that it writes in place; none
+-- changes an image that does not open
 pub record SparingTheorem : Type 0 where
   pub opens : (call : Call) (st : State) (c : Container) → ((form : Form) → call ≡ Commit form → ⊥) → opened (st .image) ≡ opening.Valid c
-      → LeftBut (InPlaceBy c (Did call (ruled call st))) c (st .image) (next call st .image)
-  -- a commit stores to nothing but its unit
+      → AgreesBut (InPlaceBy c (Did call (ruled call st))) c (st .image) (next call st .image)
+  -- a commit changes nothing but its unit
   pub unit : (form : Form) (st : State) → Keeps (InUnit form) (st .image) (next (Commit form) st .image)
   pub refused : (call : Call) (st : State) → ((c : Container) → opened (st .image) ≡ opening.Valid c → ⊥) → next call st .image ≡ st .image
+  -- what begin's and write's stores ask of their places (crate stores, `store`: to be free in the image's own space) is that the list leaves them out
+  pub free : (image : List ℕ) (c : Container) → opened image ≡ opening.Valid c → (i : ℕ) → Protected c image i ↔ (Free (spaceOf c) image i → ⊥)
+  -- and the list stays the same in every image that agrees on it, whatever external level 4s hold: so it is the list of the first image all along
+  pub stays : (image left : List ℕ) (c : Container) → opened image ≡ opening.Valid c → AgreesBut (SomeExternal c) c image left → (i : ℕ) → Protected c left i ↔ Protected c image i
 
 -- ---- landing
 
--- level 4 of the committed view: its level, its bytes, its verified blocks
-abbrev pub levelIn : {image : List ℕ} {p : ℕ} → There image p → Level
-levelIn {image} {p} has = committedView (has .container) p .level4
-
+-- level 4 of the committed view: its bytes, its verified blocks (its level is External's levelOfThere)
 abbrev pub byteIn : {image : List ℕ} {p : ℕ} → There image p → (i : ℕ) → ℕ
 byteIn {image} {p} has = contentOf (committedView (has .container) p) image 4
 
@@ -126,16 +120,16 @@ verifiedIn {image} {p} has = verified (committedView (has .container) p) image 4
 -- partition p, of either kind, of the image that a commit left, against that of the list's first one
 pub record Landed (p : ℕ) (calls : List Event) (first last : List ℕ) (old : There first p) : Type 0 where
   pub new : There last p
-  pub level : levelIn new ≡ levelIn old
+  pub level : levelOfThere new ≡ levelOfThere old
   -- every byte of an accepted write reads back with its last value, and its block is verified
-  pub inside : (i value : ℕ) → lastValue p i calls ≡ some value → i < levelIn old .size
+  pub inside : (i value : ℕ) → lastValue p i calls ≡ some value → i < levelOfThere old .size
   pub written : (i value : ℕ) → lastValue p i calls ≡ some value → byteIn new i ≡ value
-  pub verifies : (i value : ℕ) → lastValue p i calls ≡ some value → verifiedIn new (blockOf (levelIn old) i) ≡ true
+  pub verifies : (i value : ℕ) → lastValue p i calls ≡ some value → verifiedIn new (blockOf (levelOfThere old) i) ≡ true
   pub reads : (i value any : ℕ) → lastValue p i calls ≡ some value
       → readCommitted last p i (any ∷ []) ≡ record { outcome = outcome.Accepted; buffer = value ∷ [] }
   -- every other byte of level 4 is as before, and every other of its blocks is verified exactly if it was before
-  pub others : (i : ℕ) → i < levelIn old .size → lastValue p i calls ≡ none → byteIn new i ≡ byteIn old i
-  pub otherBlocks : (b : ℕ) → b < blocks (levelIn old) → ((i : ℕ) → blockOf (levelIn old) i ≡ b → lastValue p i calls ≡ none)
+  pub others : (i : ℕ) → i < levelOfThere old .size → lastValue p i calls ≡ none → byteIn new i ≡ byteIn old i
+  pub otherBlocks : (b : ℕ) → b < blocks (levelOfThere old) → ((i : ℕ) → blockOf (levelOfThere old) i ≡ b → lastValue p i calls ≡ none)
       → verifiedIn new b ≡ verifiedIn old b
 
 pub record LandingTheorem : Type 0 where
@@ -154,13 +148,18 @@ abbrev pub endedBy : Outcome → Ending
 endedBy outcome.Accepted = ending.Accepted
 endedBy (outcome.Refused r) = ending.Refused r
 
--- after any list, 13 alone stops a begin, a plain commit and an abandon: 14 never comes up; a signed commit is stopped by 15 besides
-pub record ProgressTheorem : Type 0 where
-  pub idle : (p : ℕ) (st : State) → Start p st → (calls : List Call) → after calls st .session .begun ≡ false → ruled Begin (after calls st) ≡ Accepted
-  pub begun : (p : ℕ) (st : State) → Start p st → (calls : List Call) → after calls st .session .begun ≡ true
-      → (ruled (Commit Plain) (after calls st) ≡ Accepted) × (ruled Abandon (after calls st) ≡ Accepted)
-  pub signs : (p : ℕ) (st : State) → Start p st → (calls : List Call) (key : List ℕ) (signer : Signer) → after calls st .session .begun ≡ true
-      → perform (Commit (Signed key signer)) (after calls st) .answer ≡ Stepping (endedBy (outcomeOf (signed (after calls st .image) signer)))
+-- after a list 14 never comes up, and 13 alone stops a begin, a plain commit and an abandon. A begun session enters, so that its own checks alone stop
+-- a staged read and a write; and a signed commit, 15
+pub record Progress (st : State) : Type 0 where
+  pub idle : st .session .begun ≡ false → ruled Begin st ≡ Accepted
+  pub begun : st .session .begun ≡ true → (ruled (Commit Plain) st ≡ Accepted) × (ruled Abandon st ≡ Accepted)
+  pub enters : st .session .begun ≡ true → (c : Container) × (entered (st .image) (st .session) ≡ opening.Valid c)
+  pub signs : (key : List ℕ) (signer : Signer) → st .session .begun ≡ true
+      → perform (Commit (Signed key signer)) st .answer ≡ Stepping (endedBy (outcomeOf (signed (st .image) signer)))
+
+-- for every list, on an image that opens, with an idle session first
+abbrev pub ProgressTheorem : Type 0
+ProgressTheorem = (st : State) (c : Container) → opened (st .image) ≡ opening.Valid c → st .session .begun ≡ false → (calls : List Call) → Progress (after calls st)
 
 -- ---- signing
 

@@ -1,5 +1,5 @@
--- Blocks in a row, hashed and compared with their entries at once. These are no part of the paper: the contracts of hashing and matching cite
--- them.
+-- Blocks in a row, hashed and compared with their entries at once. No part of the paper, but for `digests`, by which a blank image's hash levels are
+-- defined: the contracts of hashing and matching cite the rest.
 use mathlib.Core.List.{List, [], _++_}
 use mathlib.Core.Bool.{Bool}
 use Prim.Native.Nat.{ℕ, zero, suc, _+_, _*_}

@@ -9,7 +9,7 @@ use Rattle.number.specs.Ranges.{part}
 use Rattle.number.proofs.ListLaws.{part-same}
 use Rattle.layout.specs.Headers.{front, headerRange, headerBytes, judgedHeader}
 use Rattle.layout.specs.Tables.{active}
-use Rattle.layout.specs.Opening.{afterHeader, opened}
+use Rattle.layout.specs.Opening.{afterHeader, openedUnder, opened}
 use Rattle.layout.specs.declared.Header.{Header}
 use Rattle.layout.specs.declared.Container.{Container}
 use Rattle.layout.specs.declared.JudgedHeader.{JudgedHeader}
@@ -29,12 +29,12 @@ agree-part image other r n same = part-same image other (r .offset) (r .size) n 
 -- by parts: equal lengths, equal header bytes, equal active tables
 module _ (image other : List ℕ) (n : length image ≡ length other) (header : headerBytes image ≡ headerBytes other)
     (table : (h : Header) → judgedHeader (length image) (headerBytes image) ≡ GoodHeader h → part image (active h) ≡ part other (active h)) where
-  same-after : (x : JudgedHeader) → judgedHeader (length image) (headerBytes image) ≡ x → afterHeader image x ≡ afterHeader other x
+  same-after : (x : JudgedHeader) → judgedHeader (length image) (headerBytes image) ≡ x → afterHeader (headerBytes image) image x ≡ afterHeader (headerBytes other) other x
   same-after (BadHeader r) e = refl
   same-after (GoodHeader h) e = rw (table h e, header)
 
   pub frame-parts : opened image ≡ opened other
-  unfolding opened
+  unfolding opened openedUnder
   frame-parts = rw (same-after (judgedHeader (length image) (headerBytes image)) refl, n, header)
 
 -- by bytes: two images of one length that agree on the first 0x200 bytes and on the active table open alike

@@ -16,7 +16,7 @@ use Rattle.limits.specs.Limits.{difiSize, shortestImage, longestImage, lengthAl
 use Rattle.layout.specs.Headers.{headerBytes, hashRange, judgedHeader}
 use Rattle.layout.specs.Tables.{active, tableMatches}
 use Rattle.layout.specs.Descriptors.{partitionFields, formAllowed, placesAllowed, judgedPartition}
-use Rattle.layout.specs.Opening.{judgedSlot, afterA, afterB, afterTable, afterHeader, opened}
+use Rattle.layout.specs.Opening.{judgedSlot, afterA, afterB, afterTable, afterHeader, openedUnder, opened}
 use Rattle.layout.specs.Guarantees.{HeaderGuarantees, SlotGuarantees, Described, SecondGuarantees, Guarantees}
 use Rattle.layout.specs.declared.Header.{Header}
 use Rattle.layout.specs.declared.Slot.{Slot}
@@ -97,11 +97,11 @@ module _ (h : Header) (header table : List ℕ) (c : Container) where
 
 -- an opened image passes every check
 pub checked : (image : List ℕ) (c : Container) → opened image ≡ Valid c → Checks image c
-unfolding opened
+unfolding opened openedUnder
 checked image c e = go (lengthAllowed (length image)) (judgedHeader (length image) (headerBytes image)) refl refl e
   where
     go : (t : Bool) (x : JudgedHeader) → lengthAllowed (length image) ≡ t → judgedHeader (length image) (headerBytes image) ≡ x
-        → cond t (afterHeader image x) (Refused Length) ≡ Valid c → Checks image c
+        → cond t (afterHeader (headerBytes image) image x) (Refused Length) ≡ Valid c → Checks image c
     go false x p q e = absurd (refused e)
     go true (BadHeader r) p q e = absurd (refused e)
     go true (GoodHeader h) p q e =
@@ -124,9 +124,9 @@ module _ (h : Header) (header table : List ℕ) (a : Partition) where
   table-opens b m f s = rw (afterTable, m, f) (second-opens b s)
 
 pub opens : (image : List ℕ) (c : Container) → Checks image c → opened image ≡ Valid c
-unfolding opened
+unfolding opened openedUnder
 opens image c k =
-    rw (opened, k .size, k .header)
+    rw (opened, openedUnder, k .size, k .header)
     (table-opens (c .header) (headerBytes image) (part image (active (c .header))) (c .a) (c .b) (k .table .matches) (k .table .first) (k .table .second))
 
 -- ---- the guarantees

@@ -3,6 +3,7 @@ use Prim.Native.Nat.{ℕ, _+_, _≤_}
 use mathlib.Core.Bool.{Bool, true, false, _&&_, _||_, cond}
 use mathlib.Core.List.{List, [], _∷_}
 use mathlib.Core.Logic.{_⊎_, inl, inr}
+use mathlib.Core.Option.{none, some}
 use mathlib.Core.Path.{_≡_, refl, sym, ap, _∙_}
 use native.Mathlib.Omega.{arith}
 use native.Mathlib.Decide.{ℕ-discrete}
@@ -18,12 +19,12 @@ use Rattle.number.proofs.ListLaws.{same-is, length-part, sets-whole}
 use Rattle.number.proofs.RangeLaws.{placed-rest, placed-fits, fits-ends, Laid, laid, past-first}
 use Rattle.limits.specs.Limits.{countAllowed, flagAllowed, zeros, tableLimit}
 use Rattle.layout.specs.Magic.{opensWith, disaMagic, diffMagic}
-use Rattle.layout.specs.Headers.{front, headerBytes, noRange, noSlot, unused, partitionRanges, descriptorRanges, headerMagic, headerFields, disaHeader, diffHeader, selectionAllowed, geometryAllowed, judgedFields, judgedHeader}
+use Rattle.layout.specs.Headers.{front, headerBytes, noRange, noSlot, unused, partitionRanges, descriptorRanges, headerMagic, headerFields, disaHeader, diffHeader, selectionAllowed, geometryAllowed, judgedFields, kindIn, judgedAs, judgedHeader}
 use Rattle.layout.specs.Guarantees.{SlotGuarantees, HeaderGuarantees}
 use Rattle.layout.specs.declared.Kind.{Kind}
 use Rattle.layout.specs.declared.Kind.the-variants.{Disa, Diff}
 use Rattle.layout.specs.declared.Header.{Header}
-use Rattle.layout.specs.declared.Refusal.the-variants.{Format, Selection, Geometry}
+use Rattle.layout.specs.declared.Refusal.the-variants.{Selection, Geometry}
 use Rattle.layout.specs.declared.JudgedHeader.the-variants.{GoodHeader, BadHeader}
 
 -- ---- the header's bytes
@@ -88,11 +89,11 @@ module _ (length : ℕ) (header : List ℕ) (h : Header) where
   checked g k f m (s, p, q) = record { magic = ap (λ (kind : Kind). opensWith header (headerMagic kind)) k ∙ m; fields = sym s ∙ sym f ∙ ap (λ (kind : Kind). headerFields kind header) (sym k); selection = p; geometry = q }
 
   pub header-checked : judgedHeader length header ≡ GoodHeader h → HeaderChecks length header h
-  unfolding judgedHeader disaHeader diffHeader
+  unfolding judgedHeader kindIn disaHeader diffHeader
   header-checked e = go (opensWith header disaMagic) (opensWith header diffMagic) refl refl e
     where
       go : (x y : Bool) → opensWith header disaMagic ≡ x → opensWith header diffMagic ≡ y
-          → cond x (judgedFields length (disaHeader header)) (cond y (judgedFields length (diffHeader header)) (BadHeader Format)) ≡ GoodHeader h
+          → judgedAs length header (cond x (some Disa) (cond y (some Diff) none)) ≡ GoodHeader h
           → HeaderChecks length header h
       go true y p q e =
           let w = fields-checked (disaHeader header) e in
@@ -107,17 +108,19 @@ pub one-kind : (s : List ℕ) → opensWith s diffMagic ≡ true → opensWith s
 unfolding opensWith sameBytes
 one-kind s e = rw (same-is (part s (record { offset = 0; size = 8 })) diffMagic e)
 
+pub kind-told : (kind : Kind) (s : List ℕ) → opensWith s (headerMagic kind) ≡ true → kindIn s ≡ some kind
+unfolding kindIn
+kind-told Disa s m = rw (kindIn, m)
+kind-told Diff s m = rw (kindIn, one-kind s m, m)
+
 fields-pass : (length : ℕ) (h : Header) → selectionAllowed h ≡ true → geometryAllowed length h ≡ true → judgedFields length h ≡ GoodHeader h
 unfolding judgedFields
 fields-pass length h p q = rw (judgedFields, p, q)
 
 pub header-passes : (length : ℕ) (header : List ℕ) (h : Header) → HeaderChecks length header h → judgedHeader length header ≡ GoodHeader h
 unfolding judgedHeader
-header-passes length header h k = go (h .kind) (k .magic) (k .fields)
-  where
-    go : (kind : Kind) → opensWith header (headerMagic kind) ≡ true → h ≡ headerFields kind header → judgedHeader length header ≡ GoodHeader h
-    go Disa m f = rw (judgedHeader, m, ← f) (fields-pass length h (k .selection) (k .geometry))
-    go Diff m f = rw (judgedHeader, one-kind header m, m, ← f) (fields-pass length h (k .selection) (k .geometry))
+header-passes length header h k =
+    ap (judgedAs length header) (kind-told (h .kind) header (k .magic)) ∙ ap (judgedFields length) (sym (k .fields)) ∙ fields-pass length h (k .selection) (k .geometry)
 
 -- ---- as orders of numbers
 

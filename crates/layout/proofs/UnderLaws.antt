@@ -13,7 +13,7 @@ use Rattle.number.proofs.ListLaws.{length-part, getD-part, sets-in, sets-out}
 use Rattle.layout.specs.Headers.{front, headerBytes, judgedHeader}
 use Rattle.layout.specs.Tables.{active}
 use Rattle.limits.specs.Limits.{lengthAllowed}
-use Rattle.layout.specs.Opening.{afterHeaderUnder, opened, openedUnder}
+use Rattle.layout.specs.Opening.{afterHeader, opened, openedUnder}
 use Rattle.layout.specs.declared.Header.{Header}
 use Rattle.layout.specs.declared.JudgedHeader.{JudgedHeader}
 use Rattle.layout.specs.declared.JudgedHeader.the-variants.{GoodHeader, BadHeader}
@@ -54,12 +54,12 @@ module _ (image header : List ℕ) (long : 0x200 ≤ length image) (full : lengt
       let p = past-front (length image) header h e in
       agree-part put image (active h) put-size (λ i a b. sets-out image 0x100 header i (inr (omega arith)))
 
-  same-under : (x : JudgedHeader) → judgedHeader (length image) header ≡ x → afterHeaderUnder header put x ≡ afterHeaderUnder header image x
+  same-under : (x : JudgedHeader) → judgedHeader (length image) header ≡ x → afterHeader header put x ≡ afterHeader header image x
   same-under (BadHeader r) e = refl
   same-under (GoodHeader h) e = rw (put-table h e)
 
   abbrev answer : (n : ℕ) (h s : List ℕ) → Opened
-  answer n h s = cond (lengthAllowed n) (afterHeaderUnder h s (judgedHeader n h)) (Refused Length)
+  answer n h s = cond (lengthAllowed n) (afterHeader h s (judgedHeader n h)) (Refused Length)
 
   pub opened-under : opened (sets image 0x100 header) ≡ openedUnder header image
   unfolding opened openedUnder

@@ -31,6 +31,10 @@ levelAt s at = record { offset = le64 s at; size = le64 s (at + 8); log = logAt 
 abbrev pub externalAt : List ℕ → Bool
 externalAt d = not (eqb (getD d 0x38 0) 0)
 
+-- where the selector stands
+abbrev pub selectorOffset : ℕ
+selectorOffset = 0x39
+
 -- offset and size of IVFC, DPFS, master hash; the selector; the external level 4 offset, read only if external
 unfoldable pub difiFields : List ℕ → Difi
 difiFields d = record {
@@ -38,7 +42,7 @@ difiFields d = record {
   dpfs = rangeAt d 0x18;
   master = rangeAt d 0x28;
   external = externalAt d;
-  selector = getD d 0x39 0;
+  selector = getD d selectorOffset 0;
   outside = cond (externalAt d) (le64 d 0x3C) 0;
 }
 

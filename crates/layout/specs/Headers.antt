@@ -2,6 +2,7 @@
 use Prim.Native.Nat.{ℕ, _+_}
 use mathlib.Core.Bool.{Bool, _&&_, _||_, cond}
 use mathlib.Core.List.{List, [], _∷_}
+use mathlib.Core.Option.{Option, none, some}
 use lib.ListN.{getD}
 use lib.Dec.{eqb}
 use Rattle.number.specs.declared.Range.{Range}
@@ -113,9 +114,14 @@ unfoldable pub judgedFields : (length : ℕ) → Header → JudgedHeader
 judgedFields length h =
     cond (selectionAllowed h) (cond (geometryAllowed length h) (GoodHeader h) (BadHeader Geometry)) (BadHeader Selection)
 
+-- 2: the first eight header bytes are those of a kind, or of neither
+unfoldable pub kindIn : (header : List ℕ) → Option Kind
+kindIn header = cond (opensWith header (headerMagic Disa)) (some Disa) (cond (opensWith header (headerMagic Diff)) (some Diff) none)
+
 -- 2, then 3 and 4, of an image's length and its header's bytes
+abbrev pub judgedAs : (length : ℕ) → (header : List ℕ) → Option Kind → JudgedHeader
+judgedAs length header none = BadHeader Format
+judgedAs length header (some kind) = judgedFields length (headerFields kind header)
+
 unfoldable pub judgedHeader : (length : ℕ) → (header : List ℕ) → JudgedHeader
-judgedHeader length header =
-    cond (opensWith header (headerMagic Disa)) (judgedFields length (headerFields Disa header))
-    (cond (opensWith header (headerMagic Diff)) (judgedFields length (headerFields Diff header))
-    (BadHeader Format))
+judgedHeader length header = judgedAs length header (kindIn header)

@@ -42,21 +42,17 @@ unfoldable pub afterTable : Header → (header table : List ℕ) → Opened
 afterTable h header table =
     cond (tableMatches (h .kind) header table) (afterA h table (judgedSlot table (h .a))) (Refused TableHash)
 
--- 2 to 4 judged, of a header: the active table is next
-abbrev pub afterHeaderUnder : (header image : List ℕ) → JudgedHeader → Opened
-afterHeaderUnder header image (BadHeader r) = Refused r
-afterHeaderUnder header image (GoodHeader h) = afterTable h header (part image (active h))
+-- 2 to 4 judged: the active table is next
+abbrev pub afterHeader : (header image : List ℕ) → JudgedHeader → Opened
+afterHeader header image (BadHeader r) = Refused r
+afterHeader header image (GoodHeader h) = afterTable h header (part image (active h))
 
--- the same of the image's own header
-abbrev pub afterHeader : (image : List ℕ) → JudgedHeader → Opened
-afterHeader image judged = afterHeaderUnder (headerBytes image) image judged
-
-unfoldable pub opened : (image : List ℕ) → Opened
-opened image =
-    cond (lengthAllowed (length image)) (afterHeader image (judgedHeader (length image) (headerBytes image))) (Refused Length)
-
--- what an image opens as under another header than its own: that this is the image with that header put in its place is shown in
--- proofs/UnderLaws.antt
+-- 1, then 2 to 4, of a header that is handed in. The code of a revert (02, W13) asks this: what the image with that header in its place opens as
+-- (proofs/UnderLaws.antt)
 unfoldable pub openedUnder : (header image : List ℕ) → Opened
 openedUnder header image =
-    cond (lengthAllowed (length image)) (afterHeaderUnder header image (judgedHeader (length image) header)) (Refused Length)
+    cond (lengthAllowed (length image)) (afterHeader header image (judgedHeader (length image) header)) (Refused Length)
+
+-- an image opens under its own
+unfoldable pub opened : (image : List ℕ) → Opened
+opened image = openedUnder (headerBytes image) image

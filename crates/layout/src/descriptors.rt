@@ -23,11 +23,11 @@ use number::ranges::pair_of;
 use number::ranges::part_of;
 use number::ranges::three_placed;
 ghost use mathlib.Core.Path.{_≡_};
-ghost use mathlib.Core.Bool.{true, false, cond};
+ghost use mathlib.Core.Bool.{true, false, cond, _&&_};
 ghost use mathlib.Core.List.{[], _∷_};
 ghost use Prim.Native.Nat.{_+_, _<_, _^_};
 ghost use Rattle.number.specs.Fields.{le64};
-ghost use Rattle.number.specs.Ranges.{placed, levelRange, twice};
+ghost use Rattle.number.specs.Ranges.{fits, placed, levelRange, twice};
 ghost use Rattle.layout.specs.Descriptors.{levelAt, difiFields, ivfcFields, dpfsFields, partitionFields, difiAllowed, ivfcAllowed, dpfsAllowed, formAllowed, piecesPlaced, levelsPlaced, enoughBits, enoughEntries, allEnough, placesAllowed, judgedPartition};
 
 const DIFI_SIZE: u64 = 0x44;
@@ -175,17 +175,18 @@ fn level_range(l: Level) -> Range
     }
 }
 
-// Three pairs of halves, by the first half of each, in a partition of that size; pairs that do not fit are not doubled.
+// Three pairs of halves, by the first half of each, fit in a partition of that size: so they can be doubled.
+fn pairs_fit(whole: u64, a: Range, b: Range, c: Range) -> bool
+    ensures { λ r. ⌜ r ≡ (fits whole (twice a) && fits whole (twice b) && fits whole (twice c)) ⌝ }
+{
+    pair_fits(whole, a) & pair_fits(whole, b) & pair_fits(whole, c)
+}
+
+// They are placed in it.
 fn pairs_placed(whole: u64, a: Range, b: Range, c: Range) -> bool
     ensures { λ r. ⌜ r ≡ placed whole (twice a ∷ twice b ∷ twice c ∷ []) ⌝ }
 {
-    if !pair_fits(whole, a) {
-        return false;
-    }
-    if !pair_fits(whole, b) {
-        return false;
-    }
-    if !pair_fits(whole, c) {
+    if !pairs_fit(whole, a, b, c) {
         return false;
     }
     three_placed(whole, pair_of(a), pair_of(b), pair_of(c))
@@ -195,13 +196,7 @@ fn pairs_placed(whole: u64, a: Range, b: Range, c: Range) -> bool
 fn pairs_and_one_placed(whole: u64, a: Range, b: Range, c: Range, d: Range) -> bool
     ensures { λ r. ⌜ r ≡ placed whole (twice a ∷ twice b ∷ twice c ∷ d ∷ []) ⌝ }
 {
-    if !pair_fits(whole, a) {
-        return false;
-    }
-    if !pair_fits(whole, b) {
-        return false;
-    }
-    if !pair_fits(whole, c) {
+    if !pairs_fit(whole, a, b, c) {
         return false;
     }
     four_placed(whole, pair_of(a), pair_of(b), pair_of(c), d)

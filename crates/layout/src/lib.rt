@@ -20,7 +20,7 @@ pub enum Refusal {
     Length,
     // The first eight header bytes are neither kind.
     Format,
-    // The partition count or the active flag.
+    // The partition count, the active flag, or fields of a B that there is not.
     Selection,
     // A range, a size or a disjointness rule of the header.
     Geometry,
@@ -38,7 +38,7 @@ pub enum Refusal {
     Unverified(u64),
     // Idle where begun is needed, or begun where idle is.
     SessionState,
-    // The header or the inactive table is not as the session left it.
+    // The header is not the one that the session remembers, or the inactive table is not the active one with its selectors flipped.
     Stale,
     // The container's kind doesn't fit the type of block that is to be signed.
     SignerKind,
@@ -50,7 +50,7 @@ pub enum Refusal {
     NoSave,
     // A blank image of no such number of blocks, or a lent image that is not just as long.
     BlankSize,
-    // A revert where the session remembers no commit, or the image is not as that commit left it.
+    // A revert where the session remembers no commit, the header is not the one after it, or the image does not open under the one before it.
     NothingToRevert,
     // A running digest whose total is, or would be, past the longest message.
     DigestTooLong,
@@ -93,7 +93,7 @@ pub struct Difi {
     pub outside: u64,
 }
 
-// The hash levels 1 to 3 and the data, level 4, within DPFS level 3.
+// The hash levels 1 to 3 and the data, level 4, within DPFS level 3; of an external level 4 the offset is not read.
 pub struct Ivfc {
     pub level1: Level,
     pub level2: Level,

@@ -62,22 +62,7 @@ fn open_table(h: Header, head: &[u8], table: &[u8]) -> Opened
     }
 }
 
-// What the image is, with every field that opening reads, or the first refusal of 1 to 7 that applies.
-pub fn open(image: &[u8]) -> Opened
-    ensures { λ r. ⌜ r ≡ opened (now (image .entry)) ⌝ }
-{
-    let length = image.len() as u64;
-    if !length_allowed(length) {
-        return Opened::Refused(Refusal::Length);
-    }
-    let head = &image[HEADER..FRONT];
-    match judge_header(length, head) {
-        JudgedHeader::GoodHeader(h) => open_table(h, head, active_table(image, h)),
-        JudgedHeader::BadHeader(r) => Opened::Refused(r),
-    }
-}
-
-// The same of an image under another header than its own.
+// What an image is under a header: every field that opening reads, or the first refusal of 1 to 7 that applies.
 pub fn open_under(image: &[u8], head: &[u8]) -> Opened
     ensures { λ r. ⌜ r ≡ openedUnder (now (head .entry)) (now (image .entry)) ⌝ }
 {
@@ -89,4 +74,14 @@ pub fn open_under(image: &[u8], head: &[u8]) -> Opened
         JudgedHeader::GoodHeader(h) => open_table(h, head, active_table(image, h)),
         JudgedHeader::BadHeader(r) => Opened::Refused(r),
     }
+}
+
+// What an image is under its own header. One of a length that is refused may have none.
+pub fn open(image: &[u8]) -> Opened
+    ensures { λ r. ⌜ r ≡ opened (now (image .entry)) ⌝ }
+{
+    if !length_allowed(image.len() as u64) {
+        return Opened::Refused(Refusal::Length);
+    }
+    open_under(image, &image[HEADER..FRONT])
 }

@@ -50,7 +50,7 @@ ivfcSize = 0x78
 abbrev pub dpfsSize : ℕ
 dpfsSize = 0x50
 
--- DPFS level 1 and 2 sizes are multiples of 4, IVFC level 1 to 3 sizes multiples of 32; every other size is at least 1
+-- every size is at least 1; DPFS level 1 and 2 sizes are multiples of 4, IVFC level 1 to 3 sizes multiples of 32
 abbrev pub wordSize : ℕ
 wordSize = 4
 
@@ -66,7 +66,7 @@ abbrev pub mostEntries : ℕ
 mostEntries = 64
 
 abbrev pub masterAllowed : ℕ → Bool
-masterAllowed size = leb entrySize size && leb size (mostEntries * entrySize) && eqb (size % entrySize) 0
+masterAllowed size = sizeAllowed entrySize size && leb size (mostEntries * entrySize)
 
 -- the logarithms of IVFC levels 1 to 4 and DPFS level 3 are from 5 to 16, that of DPFS level 2 from 2 to 16
 abbrev pub leastLog : ℕ

@@ -65,7 +65,7 @@ pub fn size_allowed(unit: u64, size: u64) -> bool
 pub fn master_allowed(size: u64) -> bool
     ensures { λ r. ⌜ r ≡ masterAllowed size ⌝ }
 {
-    (ENTRY_SIZE <= size) & (size <= MOST_ENTRIES * ENTRY_SIZE) & (size % ENTRY_SIZE == 0)
+    size_allowed(ENTRY_SIZE, size) & (size <= MOST_ENTRIES * ENTRY_SIZE)
 }
 
 // A block-size logarithm: four bytes. The four after them are padding.

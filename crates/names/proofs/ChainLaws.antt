@@ -22,7 +22,8 @@ use Rattle.names.specs.declared.Link.the-variants as link
 use Rattle.number.specs.Marks.{left}
 use Rattle.names.specs.Entries.{admit, place}
 use Rattle.names.specs.Listing.{Entry, file, seenFile}
-use Rattle.names.specs.Searching.{linked, along, linkAt, chainIn, chain, counted}
+use Rattle.names.specs.Searching.{linked, along, linkAt, chainIn, chain}
+use Rattle.names.specs.Walks.{counted}
 use Rattle.number.proofs.MarkLaws.{left-fewer, left-le}
 use Rattle.names.proofs.EntryLaws.{admit-at}
 use Rattle.number.proofs.Tests.{or-right}
@@ -115,6 +116,38 @@ module _ (s : Save) (level4 : List ℕ) (stands : List Bool) (parent : ℕ) (wan
   fewer f g met l e h =
       omega (arith, left-fewer (seenFile met) (seenFile (file f ∷ met)) f (s .files .max) (link-next f g h) e (λ x. refl))
 
+  -- ---- more steps than there are entries left give the same answer
+
+  -- an entry that was met leads to no other
+  link-stops : (f g : ℕ) → linkAt s level4 stands parent wanted true f ≡ link.Next g → ⊥
+  unfolding linkAt admit
+  link-stops f g h = go (eqb f 0) h
+    where
+      go : (b : Bool) → cond b (link.Last search.Nothing) (link.Last search.Invalid) ≡ link.Next g → ⊥
+      go true h = let z : _≡_ {A = ℕ} 0 1 = cc in omega arith
+      go false h = let z : _≡_ {A = ℕ} 0 1 = cc in omega arith
+
+  left-after : {n : ℕ} (f g : ℕ) (met : List Entry) → left (seenFile met) (s .files .max) < suc n → (t : Bool) → seenFile met f ≡ t
+      → linkAt s level4 stands parent wanted t f ≡ link.Next g → left (seenFile (file f ∷ met)) (s .files .max) < n
+  left-after f g met l false e h = fewer f g met l e h
+  left-after f g met l true e h = absurd (link-stops f g h)
+
+  chain-more : (n f : ℕ) (met : List Entry) → left (seenFile met) (s .files .max) < n
+      → chainIn s level4 stands parent wanted n f met ≡ chainIn s level4 stands parent wanted (suc n) f met
+  unfolding chainIn
+  chain-more zero f met l = absurd (omega arith)
+  chain-more (suc n) f met l =
+      along-cong (linkAt s level4 stands parent wanted (seenFile met f) f) _ _ (λ g h. chain-more n g (file f ∷ met) (left-after f g met l (seenFile met f) refl h))
+
+  pub chain-rule : (f : ℕ) (met : List Entry)
+      → chain s level4 stands parent wanted f met ≡ along (linkAt s level4 stands parent wanted (seenFile met f) f) (λ g. chain s level4 stands parent wanted g (file f ∷ met))
+  unfolding chain chainIn
+  chain-rule f met =
+      along-cong (linkAt s level4 stands parent wanted (seenFile met f) f) _ _
+      (λ g h. chain-more (s .files .max) g (file f ∷ met) (left-after f g met (omega (arith, left-le (seenFile met) (s .files .max))) (seenFile met f) refl h))
+
+  -- ---- a count of steps instead of a memory
+
   counted-is : (n f : ℕ) (met : List Entry) → left (seenFile met) (s .files .max) < n → Closed met f
       → chainIn s level4 stands parent wanted n f met ≡ counted s level4 stands parent wanted n f
   counted-is zero f met l closed = absurd (omega arith)
@@ -129,13 +162,13 @@ module _ (s : Save) (level4 : List ℕ) (stands : List Bool) (parent : ℕ) (wan
       go false e r =
           chain-new n f met e (λ g h. r g (file f ∷ met) (fewer f g met l e h) (closed-more met f g closed h))
 
-  pub chain-counted : (f : ℕ) → chain s level4 stands parent wanted f ≡ counted s level4 stands parent wanted (suc (s .files .max)) f
+  pub chain-counted : (f : ℕ) → chain s level4 stands parent wanted f [] ≡ counted s level4 stands parent wanted (suc (s .files .max)) f
   unfolding chain
   chain-counted f = counted-is (suc (s .files .max)) f [] (omega (arith, left-le (seenFile []) (s .files .max))) (closed-none f)
 
   -- ---- the loop
 
-  pub counted-start : (f k : ℕ) → k ≡ s .files .max + 1 → chain s level4 stands parent wanted f ≡ counted s level4 stands parent wanted k f
+  pub counted-start : (f k : ℕ) → k ≡ s .files .max + 1 → chain s level4 stands parent wanted f [] ≡ counted s level4 stands parent wanted k f
   counted-start f k e = chain-counted f ∙ ap (λ (n : ℕ). counted s level4 stands parent wanted n f) (sym (e ∙ add-one (s .files .max)))
 
   pub counted-last : (n f : ℕ) (a : Search) → (n ≡ 0 → ⊥) → linkAt s level4 stands parent wanted false f ≡ link.Last a → counted s level4 stands parent wanted n f ≡ a

@@ -8,3 +8,4 @@ pub mod HashLaws
 pub mod ReachLaws
 pub mod OpenLaws
 pub mod RowLaws
+mod LawsHold

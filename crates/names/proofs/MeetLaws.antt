@@ -1,13 +1,14 @@
 -- Meeting one entry, as the code does it. Assumes nothing.
 use mathlib.Core.Path.{_≡_, refl, sym, ap, _∙_}
 use mathlib.Core.Bool.{Bool, false, cond}
-use mathlib.Core.List.{List, _++_}
-use Prim.Native.Nat.{ℕ, _+_, _*_, _/_, _<_}
+use mathlib.Core.List.{List, [], _∷_, _++_}
+use Prim.Native.Nat.{ℕ, _+_, _*_, _/_, _%_, _<_}
 use native.Mathlib.Omega.{arith}
 use lib.Dec.{ltb}
 use lib.ListN.{length, getD}
 use lib.Seq.{sets}
 use borrow.Author.Tests.{lt-ltb}
+use Rattle.number.specs.Fields.{fieldBytes}
 use Rattle.number.specs.Bytes.{bytes}
 use Rattle.number.specs.Marks.{Marks}
 use Rattle.number.proofs.ListLaws.{sets-append}
@@ -37,6 +38,23 @@ unfolding putRecord
 record-none row i r h = sym (ap (λ (b : Bool). cond b (sets row (24 * i) r) row) h)
 
 -- the record is stored in two pieces
+-- the eight bytes that the code stores are the two fields
+pub head-bytes : (kind e : ℕ) → kind < 0x100
+    → kind ∷ 0 ∷ 0 ∷ 0 ∷ e % 0x100 ∷ e / 0x100 % 0x100 ∷ e / 0x10000 % 0x100 ∷ e / 0x1000000 % 0x100 ∷ [] ≡ head kind e
+unfolding fieldBytes
+head-bytes kind e h =
+    let k0 : kind ≡ kind % 0x100 = omega arith in
+    let k1 : 0 ≡ kind / 0x100 % 0x100 = omega arith in
+    let k2 : 0 ≡ kind / 0x100 / 0x100 % 0x100 = omega arith in
+    let k3 : 0 ≡ kind / 0x100 / 0x100 / 0x100 % 0x100 = omega arith in
+    let e2 : e / 0x10000 % 0x100 ≡ e / 0x100 / 0x100 % 0x100 = omega arith in
+    let e3 : e / 0x1000000 % 0x100 ≡ e / 0x100 / 0x100 / 0x100 % 0x100 = omega arith in
+    λ i. k0 i ∷ k1 i ∷ k2 i ∷ k3 i ∷ e % 0x100 ∷ e / 0x100 % 0x100 ∷ e2 i ∷ e3 i ∷ []
+
+pub head-length : (kind e : ℕ) → length (head kind e) ≡ 8
+unfolding fieldBytes
+head-length kind e = refl
+
 pub record-put : (row middle after : List ℕ) (i : ℕ) (first name : List ℕ) → i < length row / 24 → length first ≡ 8 → middle ≡ sets row (24 * i) first
     → after ≡ sets middle (24 * i + 8) name → after ≡ putRecord row i (first ++ name)
 unfolding putRecord

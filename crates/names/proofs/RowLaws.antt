@@ -9,6 +9,7 @@ use lib.Dec.{ltb}
 use lib.ListN.{length, getD}
 use lib.Seq.{sets, length-sets}
 use borrow.Author.Tests.{lt-ltb}
+use Rattle.number.specs.Fields.{fieldBytes}
 use Rattle.number.specs.Bytes.{Outside}
 use Rattle.number.proofs.ListLaws.{length-bytes, sets-out, sets-in}
 use Rattle.names.specs.declared.Save.{Save}
@@ -16,7 +17,7 @@ use Rattle.names.specs.Listing.{Entry, folder, file}
 use Rattle.names.specs.Records.{entryRecord, putRecord, laid}
 
 entry-length : (s : Save) (level4 : List ℕ) (e : Entry) → length (entryRecord s level4 e) ≡ 24
-unfolding entryRecord
+unfolding entryRecord fieldBytes
 entry-length s level4 (folder e) = ap (λ (n : ℕ). suc (suc (suc (suc (suc (suc (suc (suc n)))))))) (length-bytes _ _ 16)
 entry-length s level4 (file f) = ap (λ (n : ℕ). suc (suc (suc (suc (suc (suc (suc (suc n)))))))) (length-bytes _ _ 16)
 

@@ -1,7 +1,8 @@
 pub mod Records
 pub mod Entries
 pub mod Listing
-pub mod Walks
 pub mod Searching
+pub mod Walks
 pub mod Reachable
+pub mod Laws
 pub mod Opening

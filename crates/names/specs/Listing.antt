@@ -47,7 +47,7 @@ module _ (s : Save) (level4 : List ℕ) (stands : List Bool) where
   abbrev pub meetFile : ℕ → List Entry → Outcome
   meetFile f met = joins (admit stands (s .log) (s .files) (seenFile met f) f) (file f ∷ met)
 
-  -- the files from f on, in sibling order. The first argument bounds the steps: proofs/FuelLaws.antt shows that it never decides.
+  -- the files from f on, in sibling order. The first argument bounds the steps; it never decides (Laws.antt).
   unfoldable pub filesIn : (steps : ℕ) → (f : ℕ) → List Entry → Outcome
   filesIn zero f met = invalid
   filesIn (suc n) f met = cond (eqb f 0) (listed met) (next (meetFile f met) (filesIn n (nextFile s level4 f)))

@@ -1,17 +1,18 @@
 -- The lent row: records of 24 bytes, each the kind (0 folder, 1 file) and the entry number, of 4 bytes each with the least significant first, and
 -- the 16 name bytes.
-use Prim.Native.Nat.{ℕ, _*_, _/_, _%_}
+use Prim.Native.Nat.{ℕ, _*_, _/_}
 use mathlib.Core.Bool.{cond}
 use mathlib.Core.List.{List, [], _∷_, _++_}
 use lib.Dec.{ltb}
 use lib.ListN.{length}
 use lib.Seq.{sets}
+use Rattle.number.specs.Fields.{fieldBytes}
 use Rattle.names.specs.declared.Save.{Save}
 use Rattle.names.specs.Entries.{name}
 use Rattle.names.specs.Listing.{Entry, folder, file, Outcome, listed, invalid, unverified}
 
 abbrev pub head : (kind e : ℕ) → List ℕ
-head kind e = kind ∷ 0 ∷ 0 ∷ 0 ∷ e % 0x100 ∷ e / 0x100 % 0x100 ∷ e / 0x10000 % 0x100 ∷ e / 0x1000000 % 0x100 ∷ []
+head kind e = fieldBytes 4 kind ++ fieldBytes 4 e
 
 unfoldable pub entryRecord : Save → List ℕ → Entry → List ℕ
 entryRecord s level4 (folder e) = head 0 e ++ name (s .folders) level4 e

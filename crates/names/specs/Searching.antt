@@ -1,6 +1,6 @@
 -- W11's search: a file by its folder's number and its 16 name bytes, along the chain of its bucket.
 use Prim.Native.Nat.{ℕ, zero, suc, _+_, _*_, _/_, _%_, _^_}
-use mathlib.Core.Bool.{Bool, cond, _&&_, false}
+use mathlib.Core.Bool.{Bool, cond, _&&_}
 use mathlib.Core.List.{List, [], _∷_}
 use lib.Dec.{eqb}
 use lib.ListN.{getD}
@@ -56,24 +56,19 @@ module _ (s : Save) (level4 : List ℕ) (stands : List Bool) (parent : ℕ) (wan
   unfoldable pub linkAt : (again : Bool) → ℕ → Link
   linkAt again f = cond (eqb f 0) (link.Last search.Nothing) (linked (admit stands (s .log) (s .files) again f) f)
 
-  -- the chain from f on, with the entries met so far. The first argument bounds the steps: proofs/ChainLaws.antt shows that it never decides.
+  -- the chain from f on, with the entries met so far. The first argument bounds the steps; it never decides (Laws.antt).
   unfoldable pub chainIn : (steps : ℕ) → (f : ℕ) → List Entry → Search
   chainIn zero f met = search.Invalid
   chainIn (suc n) f met = along (linkAt (seenFile met f) f) (λ g. chainIn n g (file f ∷ met))
 
-  unfoldable pub chain : ℕ → Search
-  chain f = chainIn (suc (s .files .max)) f []
+  unfoldable pub chain : (f : ℕ) → List Entry → Search
+  chain f met = chainIn (suc (s .files .max)) f met
 
   -- the bucket's word is read whole, then its chain is followed
   abbrev pub chainAt : Reach → Search
-  chainAt (reach.At at) = chain (le32 level4 at)
+  chainAt (reach.At at) = chain (le32 level4 at) []
   chainAt reach.Invalid = search.Invalid
   chainAt (reach.Unverified b) = search.Unverified b
 
   unfoldable pub found : Search
   found = chainAt (readAt stands (s .log) (s .hash + 4 * bucket wanted parent (s .buckets)) 4)
-
-  -- the chain by a count of steps alone, with no memory of what was met
-  unfoldable pub counted : (steps : ℕ) → (f : ℕ) → Search
-  counted zero f = search.Invalid
-  counted (suc n) f = along (linkAt false f) (counted n)

@@ -1,5 +1,6 @@
 -- What the code's state has to do with the definition: marks, count and row stand for the entries met so far.
-use Prim.Native.Nat.{ℕ, _+_, _*_, _≤_, _<_}
+use Prim.Native.Nat.{ℕ, zero, suc, _+_, _*_, _≤_, _<_}
+use mathlib.Core.Bool.{Bool, false}
 use mathlib.Core.Path.{_≡_}
 use mathlib.Core.List.{List, _++_}
 use lib.ListN.{length}
@@ -8,10 +9,13 @@ use Rattle.names.specs.declared.Save.{Save}
 use Rattle.names.specs.declared.Table.{Table}
 use Rattle.names.specs.declared.Reach.{Reach}
 use Rattle.names.specs.declared.Reach.the-variants as reach
+use Rattle.names.specs.declared.Search.{Search}
+use Rattle.names.specs.declared.Search.the-variants as search
 use Rattle.names.specs.declared.Walked.{Walked}
 use Rattle.names.specs.declared.Walked.the-variants as walked
 use Rattle.names.specs.Entries.{name}
 use Rattle.names.specs.Listing.{Entry, Outcome, listed, invalid, unverified, seenFolder, seenFile}
+use Rattle.names.specs.Searching.{along, linkAt}
 use Rattle.names.specs.Records.{head, putRecord, laid}
 
 -- ---- one entry
@@ -82,6 +86,11 @@ pub record Searchable (s : Save) (log size : ℕ) : Type 0 where
   pub logs : s .log ≡ log
   pub files : s .files .place + s .files .size * s .files .max ≤ size
   pub file : 0x30 ≤ s .files .size
+
+-- a chain by a count of steps alone, with no memory of what was met
+unfoldable pub counted : Save → (level4 : List ℕ) → (stands : List Bool) → (parent : ℕ) → (wanted : List ℕ) → (steps f : ℕ) → Search
+counted s level4 stands parent wanted zero f = search.Invalid
+counted s level4 stands parent wanted (suc n) f = along (linkAt s level4 stands parent wanted false f) (counted s level4 stands parent wanted n)
 
 -- ---- the whole listing
 

@@ -1,6 +1,8 @@
 // The folders and files of a SAVE image: what its tables say, which entries a walk has met, and the records of a listing. The container stands
 // above this crate's definitions (crate save): here level 4 is its bytes and, for each of its blocks, whether it is verified.
 
+ghost use Rattle.names.specs.Laws.{NameLaws};
+
 pub mod hashing;
 pub mod header;
 pub mod records;
@@ -57,3 +59,8 @@ pub enum Search {
     Invalid,
     Unverified(u64),
 }
+
+// The laws of the listing and the search hold: the check of this crate asks for them by their statement.
+pub fn laws()
+    ensures { λ _. ⌜ NameLaws ⌝ }
+{}

@@ -86,13 +86,28 @@ past-first n a h (inr k) = absurd (omega arith)
 
 -- ranges of which one does not fit are not placed
 module _ (n : ℕ) (a : Range) (rest : List Range) where
-  pub misfit : fits n a ≡ false → placed n (a ∷ rest) ≡ false
+  misfit : fits n a ≡ false → placed n (a ∷ rest) ≡ false
   unfolding placed
   misfit e = right-fails (placed n rest) _ (right-fails (clear a rest) _ e)
 
-  pub misfit-later : placed n rest ≡ false → placed n (a ∷ rest) ≡ false
+  misfit-later : placed n rest ≡ false → placed n (a ∷ rest) ≡ false
   unfolding placed
   misfit-later e = left-fails (placed n rest) _ e
+
+-- three ranges that are asked first: what it tells that they fit, or that one does not, whatever ranges come after them
+module _ (n : ℕ) (a b c : Range) where
+  pub three-misfit : (rest : List Range) → (fits n a && fits n b && fits n c) ≡ false → placed n (a ∷ b ∷ c ∷ rest) ≡ false
+  three-misfit rest e = go (fits n a) (fits n b) refl refl e
+    where
+      go : (x y : Bool) → fits n a ≡ x → fits n b ≡ y → (x && y && fits n c) ≡ false → placed n (a ∷ b ∷ c ∷ rest) ≡ false
+      go false y p q e = misfit n a _ p
+      go true false p q e = misfit-later n a _ (misfit n b _ q)
+      go true true p q e = misfit-later n a _ (misfit-later n b _ (misfit n c rest e))
+
+  pub three-end : (fits n a && fits n b && fits n c) ≡ true → (a .offset + a .size ≤ n) × (b .offset + b .size ≤ n) × (c .offset + c .size ≤ n)
+  three-end e =
+      let ab = and-left (fits n a && fits n b) (fits n c) e in
+      (fits-ends n a (and-left _ (fits n b) ab), fits-ends n b (and-right (fits n a) _ ab), fits-ends n c (and-right (fits n a && fits n b) _ e))
 
 module _ (offset size whole : ℕ) where
   -- that two halves fit, without a sum

@@ -1,7 +1,7 @@
 -- Little-endian fields of a list of bytes, past whose end a byte is 0; and the bits of a number.
-use Prim.Native.Nat.{ℕ, _+_, _*_, _/_, _%_, _^_}
+use Prim.Native.Nat.{ℕ, zero, suc, _+_, _*_, _/_, _%_, _^_}
 use mathlib.Core.Bool.{Bool}
-use mathlib.Core.List.{List}
+use mathlib.Core.List.{List, [], _∷_}
 use lib.Dec.{eqb}
 use lib.ListN.{getD}
 
@@ -16,6 +16,11 @@ le32 s at = le16 s at + 0x10000 * le16 s (at + 2)
 -- eight bytes
 unfoldable pub le64 : List ℕ → ℕ → ℕ
 le64 s at = le32 s at + 0x100000000 * le32 s (at + 4)
+
+-- a number's bytes in a field of that size
+unfoldable pub fieldBytes : (size value : ℕ) → List ℕ
+fieldBytes zero value = []
+fieldBytes (suc size) value = value % 0x100 ∷ fieldBytes size (value / 0x100)
 
 -- bit k of a number
 unfoldable pub testBit : (value k : ℕ) → Bool

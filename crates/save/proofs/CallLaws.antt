@@ -28,7 +28,7 @@ use Rattle.names.specs.Walks.{answerOf, Listable, Searchable}
 use Rattle.number.proofs.MarkLaws.{zeros-unmarked}
 use Rattle.names.proofs.OpenLaws.{valid-listable, valid-searchable}
 use Rattle.entries.specs.Known.{Legible}
-use Rattle.steps.specs.Calls.{refusalOf}
+use Rattle.steps.specs.Rules.{refusalOf}
 use Rattle.save.specs.declared.Listed.{Listed}
 use Rattle.save.specs.declared.Listed.the-variants as names
 use Rattle.save.specs.declared.Sought.{Sought}

@@ -13,7 +13,7 @@ abbrev pub listedSays : Listed → Said
 listedSays (names.Names n) = accepts n
 listedSays (names.Refused r) = refuses r
 
--- the file's entry number, which is never 0; 0 for none
+-- the file's entry number, which is never 0, since 0 ends a chain (names' linkAt); 0 for none
 abbrev pub soughtSays : Sought → Said
 soughtSays (sought.File f) = accepts f
 soughtSays sought.Nothing = accepts 0

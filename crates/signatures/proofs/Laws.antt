@@ -1,6 +1,6 @@
 -- Signed opening, as the functions cite it, and what other crates may cite of it. Assumes nothing.
-use mathlib.Core.Path.{_≡_, sym, _∙_}
-use mathlib.Core.Bool.{Bool, true, false}
+use mathlib.Core.Path.{_≡_, sym, ap, _∙_}
+use mathlib.Core.Bool.{Bool, true, false, cond}
 use mathlib.Core.List.{List}
 use Prim.Native.Nat.{ℕ}
 use lib.Dec.{leb}
@@ -15,18 +15,15 @@ use Rattle.layout.specs.declared.Opened.the-variants as opening
 use Rattle.layout.specs.declared.Outcome.{Outcome}
 use Rattle.layout.specs.declared.Outcome.the-variants as outcome
 use Rattle.layout.specs.declared.Refusal.{Refusal}
-use Rattle.layout.specs.declared.Refusal.the-variants.{Signature}
-use Rattle.layout.specs.declared.Kind.{Kind}
-use Rattle.layout.specs.declared.Kind.the-variants.{Disa, Diff}
+use Rattle.layout.specs.declared.Refusal.the-variants.{Length, Signature}
 use Rattle.layout.specs.declared.Container.{Container}
-use Rattle.layout.specs.Magic.{opensWith}
-use Rattle.layout.specs.Headers.{headerBytes, headerMagic}
+use Rattle.layout.specs.Headers.{headerBytes}
 use Rattle.limits.specs.Limits.{longestImage, lengthAllowed}
 use Rattle.layout.specs.Opening.{opened}
 use Rattle.layout.specs.Guarantees.{Guarantees}
-use Rattle.layout.proofs.HeaderLaws.{one-kind}
+use Rattle.layout.proofs.HeaderLaws.{kind-told}
 use Rattle.signing.specs.declared.Signer.{Signer}
-use Rattle.signing.specs.Calls.{Refused, signedAs, signed, outcomeOf}
+use Rattle.signing.specs.Calls.{Refused, signedAs, signedKind, signedHeader, signed, outcomeOf}
 use Rattle.signing.proofs.AnswerLaws.{refused-is, accepted-is}
 use Rattle.signatures.specs.Signatures.{signatureRange, signature, comesFirst, openedSigned}
 
@@ -66,10 +63,10 @@ length-good : (image : List ℕ) (c : Container) → Guarantees image c → leng
 unfolding lengthAllowed
 length-good image c g = and-both (leb 0x200 (length image)) (leb (length image) longestImage) (le-leb _ _ (g .shortest)) (le-leb _ _ (g .longest))
 
-pub signed-of : (image : List ℕ) (c : Container) → Guarantees image c → (signer : Signer) → signed image signer ≡ signedAs (c .header .kind) signer (headerBytes image)
+pub signed-by : (image : List ℕ) (c : Container) → Guarantees image c → (signer : Signer) → signed image signer ≡ signedHeader (headerBytes image) signer
 unfolding signed
-signed-of image c g signer = by (c .header .kind) (g .magic)
-  where
-    by : (kind : Kind) → opensWith (headerBytes image) (headerMagic kind) ≡ true → signed image signer ≡ signedAs kind signer (headerBytes image)
-    by Disa m = rw (signed, length-good image c g, m)
-    by Diff m = rw (signed, length-good image c g, one-kind (headerBytes image) m, m)
+signed-by image c g signer = ap (λ (t : Bool). cond t (signedHeader (headerBytes image) signer) (Refused Length)) (length-good image c g)
+
+pub signed-of : (image : List ℕ) (c : Container) → Guarantees image c → (signer : Signer) → signed image signer ≡ signedAs (c .header .kind) signer (headerBytes image)
+unfolding signedHeader
+signed-of image c g signer = signed-by image c g signer ∙ ap (signedKind (headerBytes image) signer) (kind-told (c .header .kind) (headerBytes image) (g .magic))

@@ -12,7 +12,7 @@ use Rattle.cmac.specs.Cmac.{cmac}
 use Rattle.layout.specs.declared.Opened.{Opened}
 use Rattle.layout.specs.declared.Opened.the-variants as opening
 use Rattle.layout.specs.declared.Refusal.the-variants.{Signature}
-use Rattle.layout.specs.Refusals.{number}
+use Rattle.layout.specs.Refusals.{refuses}
 use Rattle.layout.specs.Headers.{headerBytes}
 use Rattle.layout.specs.Opening.{opened}
 use Rattle.signing.specs.declared.Signer.{Signer}
@@ -36,7 +36,7 @@ afterSigner image key signer (Signs block) =
 -- opening's answer comes before 15 and 16 if it is 1, 2 or 3
 abbrev pub comesFirst : Opened → Bool
 comesFirst (opening.Valid c) = false
-comesFirst (opening.Refused r) = leb (number r) 3
+comesFirst (opening.Refused r) = leb (refuses r .number) 3
 
 -- opening that checks the signature: 1, 2, 3, then 15, then 16, then 4 and on
 unfoldable pub openedSigned : List ℕ → (key : List ℕ) → Signer → Opened

@@ -2,6 +2,7 @@
 use mathlib.Core.Path.{_≡_, refl, sym, ap, _∙_}
 use mathlib.Core.Bool.{Bool, true, false, cond}
 use mathlib.Core.List.{List, _++_}
+use mathlib.Core.Option.{Option, none, some}
 use Prim.Native.Nat.{ℕ, _-_, _≤_}
 use native.Mathlib.Omega.{arith}
 use borrow.Author.Tests.{leb-true}
@@ -15,14 +16,14 @@ use Rattle.layout.specs.declared.Outcome.the-variants as outcome
 use Rattle.layout.specs.declared.Refusal.{Refusal}
 use Rattle.layout.specs.declared.Refusal.the-variants.{Length, Format, SignerKind}
 use Rattle.layout.specs.Magic.{opensWith}
-use Rattle.layout.specs.Headers.{headerBytes, headerMagic}
+use Rattle.layout.specs.Headers.{headerBytes, headerMagic, kindIn}
 use Rattle.limits.specs.Limits.{lengthAllowed}
 use Rattle.sha256.specs.Sha256.{sha256}
 use Rattle.signing.specs.declared.Built.the-variants as built
 use Rattle.signing.specs.declared.Signer.{Signer}
 use Rattle.signing.specs.Blocks.{kindOf}
 use Rattle.signing.specs.Blocks.{signingBlock}
-use Rattle.signing.specs.Calls.{Answer, Signs, Refused, sameKind, signedAs, signed, outcomeOf, builtAs, blockLeft, digestLeft}
+use Rattle.signing.specs.Calls.{Answer, Signs, Refused, sameKind, signedAs, signedKind, signedHeader, signed, outcomeOf, builtAs, blockLeft, digestLeft}
 
 module _ (kind : Kind) (signer : Signer) (header : List ℕ) (r : Bool) (e : r ≡ sameKind kind (kindOf signer)) where
   pub kind-fits : r ≡ true → outcome.Accepted ≡ outcomeOf (signedAs kind signer header)
@@ -31,26 +32,28 @@ module _ (kind : Kind) (signer : Signer) (header : List ℕ) (r : Bool) (e : r �
   pub kind-differs : r ≡ false → outcome.Refused SignerKind ≡ outcomeOf (signedAs kind signer header)
   kind-differs t = rw (sym e ∙ t) refl
 
+module _ (header : List ℕ) (signer : Signer) where
+  pub disa-judged : (r : Outcome) → opensWith header (headerMagic Disa) ≡ true → r ≡ outcomeOf (signedAs Disa signer header) → r ≡ outcomeOf (signedHeader header signer)
+  unfolding signedHeader kindIn
+  disa-judged r a e = rw (signedHeader, kindIn, a) e
+
+  module _ (a : opensWith header (headerMagic Disa) ≡ false) where
+    pub diff-judged : (r : Outcome) → opensWith header (headerMagic Diff) ≡ true → r ≡ outcomeOf (signedAs Diff signer header) → r ≡ outcomeOf (signedHeader header signer)
+    unfolding signedHeader kindIn
+    diff-judged r b e = rw (signedHeader, kindIn, a, b) e
+
+    pub neither-refused : opensWith header (headerMagic Diff) ≡ false → outcome.Refused Format ≡ outcomeOf (signedHeader header signer)
+    unfolding signedHeader kindIn
+    neither-refused b = rw (signedHeader, kindIn, a, b) refl
+
 module _ (image : List ℕ) (signer : Signer) where
   pub length-refused : lengthAllowed (length image) ≡ false → outcome.Refused Length ≡ outcomeOf (signed image signer)
   unfolding signed
   length-refused l = rw (signed, l) refl
 
-  module _ (l : lengthAllowed (length image) ≡ true) where
-    pub disa-judged : (r : Outcome) → opensWith (headerBytes image) (headerMagic Disa) ≡ true → r ≡ outcomeOf (signedAs Disa signer (headerBytes image))
-        → r ≡ outcomeOf (signed image signer)
-    unfolding signed
-    disa-judged r a e = rw (signed, l, a) e
-
-    module _ (a : opensWith (headerBytes image) (headerMagic Disa) ≡ false) where
-      pub diff-judged : (r : Outcome) → opensWith (headerBytes image) (headerMagic Diff) ≡ true → r ≡ outcomeOf (signedAs Diff signer (headerBytes image))
-          → r ≡ outcomeOf (signed image signer)
-      unfolding signed
-      diff-judged r b e = rw (signed, l, a, b) e
-
-      pub neither-refused : opensWith (headerBytes image) (headerMagic Diff) ≡ false → outcome.Refused Format ≡ outcomeOf (signed image signer)
-      unfolding signed
-      neither-refused b = rw (signed, l, a, b) refl
+  pub header-judged : lengthAllowed (length image) ≡ true → (r : Outcome) → r ≡ outcomeOf (signedHeader (headerBytes image) signer) → r ≡ outcomeOf (signed image signer)
+  unfolding signed
+  header-judged l r e = rw (signed, l) e
 
 -- ---- what an answer says
 
@@ -67,30 +70,34 @@ accepted-as kind signer header e = go (sameKind kind (kindOf signer)) e
     go true z = refl
     go false z = absurd (let n : _≡_ {A = ℕ} 0 1 = cc in omega arith)
 
-long : (n : ℕ) → lengthAllowed n ≡ true → 0x200 ≤ n
+pub long : (n : ℕ) → lengthAllowed n ≡ true → 0x200 ≤ n
 unfolding lengthAllowed
 long n l = leb-true 0x200 n (and-left (leb 0x200 n) _ l)
 
 never : {A : Type 0} (r : Refusal) → outcome.Refused r ≡ outcome.Accepted → A
 never r e = absurd (let z : _≡_ {A = ℕ} 0 1 = cc in omega arith)
 
--- an accepted signer has its block of the header, and the image has one
+-- an accepted signer has its block of the header
+pub accepted-header : (header : List ℕ) (signer : Signer) → outcomeOf (signedHeader header signer) ≡ outcome.Accepted → signedHeader header signer ≡ Signs (signingBlock signer header)
+unfolding signedHeader
+accepted-header header signer e = by (kindIn header) e
+  where
+    by : (k : Option Kind) → outcomeOf (signedKind header signer k) ≡ outcome.Accepted → signedKind header signer k ≡ Signs (signingBlock signer header)
+    by none e = never Format e
+    by (some kind) e = accepted-as kind signer header e
+
+-- and an image of which it has one has a header
 pub accepted-is : (image : List ℕ) (signer : Signer) → outcomeOf (signed image signer) ≡ outcome.Accepted
     → (signed image signer ≡ Signs (signingBlock signer (headerBytes image))) × (0x200 ≤ length image)
 unfolding signed
-accepted-is image signer e =
-    by (lengthAllowed (length image)) (opensWith (headerBytes image) (headerMagic Disa)) (opensWith (headerBytes image) (headerMagic Diff)) refl refl refl
+accepted-is image signer e = by (lengthAllowed (length image)) refl
   where
-    by : (l a b : Bool) → lengthAllowed (length image) ≡ l → opensWith (headerBytes image) (headerMagic Disa) ≡ a → opensWith (headerBytes image) (headerMagic Diff) ≡ b
-        → (signed image signer ≡ Signs (signingBlock signer (headerBytes image))) × (0x200 ≤ length image)
-    by false a b l p q = never Length (length-refused image signer l ∙ e)
-    by true true b l p q =
-        let j = disa-judged image signer l (outcomeOf (signedAs Disa signer (headerBytes image))) p refl in
-        (rw (signed, l, p) (accepted-as Disa signer (headerBytes image) (j ∙ e)), long (length image) l)
-    by true false true l p q =
-        let j = diff-judged image signer l p (outcomeOf (signedAs Diff signer (headerBytes image))) q refl in
-        (rw (signed, l, p, q) (accepted-as Diff signer (headerBytes image) (j ∙ e)), long (length image) l)
-    by true false false l p q = never Format (neither-refused image signer l p q ∙ e)
+    by : (l : Bool) → lengthAllowed (length image) ≡ l → (signed image signer ≡ Signs (signingBlock signer (headerBytes image))) × (0x200 ≤ length image)
+    by false l = never Length (length-refused image signer l ∙ e)
+    by true l = (
+      rw (signed, l) (accepted-header (headerBytes image) signer (header-judged image signer l _ refl ∙ e)),
+      long (length image) l,
+    )
 
 -- ---- what the calls leave, by the judgement's outcome
 

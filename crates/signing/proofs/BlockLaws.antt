@@ -6,6 +6,7 @@ use Prim.Native.Nat.{ℕ, _+_, _-_, _≤_}
 use native.Mathlib.Omega.{arith}
 use lib.ListN.{length, take, replicate, length-append, length-replicate}
 use lib.Seq.{sets, take-at}
+use Rattle.number.specs.Fields.{fieldBytes}
 use Rattle.number.proofs.ListLaws.{sets-append, sets-two}
 use Rattle.sha256.specs.Sha256.{sha256}
 use Rattle.sha256.proofs.Laws.{length-sha256}
@@ -13,7 +14,7 @@ use Rattle.signing.specs.declared.Signer.{Signer}
 use Rattle.signing.specs.declared.Signer.the-variants.{Card, Title, System, Extdata, Database}
 use Rattle.signing.specs.declared.ExtdataFile.the-variants.{Quota, Device}
 use Rattle.signing.specs.declared.Shape.{Shape}
-use Rattle.signing.specs.Blocks.{fieldBytes, laidOut, block, letters, fields, hashed, innerBlock, tailOf, signingBlock}
+use Rattle.signing.specs.Blocks.{laidOut, block, letters, fields, hashed, innerBlock, tailOf, signingBlock}
 use Rattle.signing.specs.Rules.{ShapeOf}
 
 -- ---- the tail

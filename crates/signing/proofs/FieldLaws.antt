@@ -8,11 +8,12 @@ use native.Mathlib.Nat.{div-lt-iff-lt-mul, pow-suc}
 use lib.ListN.{length, getD, set, take, drop, length-append, drop-of-length-le, List·getD-append}
 use native.Mathlib.Numerals.{add-one}
 use lib.Seq.{sets, drop-at, drop-cons, take-at, getD-append-add}
+use Rattle.number.specs.Fields.{fieldBytes}
 use Rattle.number.specs.Bytes.{Outside}
 use Rattle.number.specs.Ranges.{part}
 use Rattle.number.proofs.ListLaws.{sets-append}
 use Rattle.signing.specs.declared.Field.{Field}
-use Rattle.signing.specs.Blocks.{fieldBytes, laidOut, block, field}
+use Rattle.signing.specs.Blocks.{laidOut, block, field}
 use Rattle.signing.specs.Placing.{numberOf, offsetOf, Placing}
 
 pub length-field : (size value : ℕ) → length (fieldBytes size value) ≡ size

@@ -2,21 +2,17 @@
 -- the hash of the inner block.
 use mathlib.Core.Bool.{Bool, true, false, cond}
 use mathlib.Core.List.{List, [], _∷_, _++_}
-use Prim.Native.Nat.{ℕ, zero, suc, _%_, _/_}
+use Prim.Native.Nat.{ℕ}
 use Rattle.sha256.specs.Sha256.{sha256}
 use Rattle.layout.specs.declared.Kind.{Kind}
 use Rattle.layout.specs.declared.Kind.the-variants.{Disa, Diff}
+use Rattle.number.specs.Fields.{fieldBytes}
 use Rattle.signing.specs.declared.Field.{Field}
 use Rattle.signing.specs.declared.ExtdataFile.the-variants.{Quota, Device}
 use Rattle.signing.specs.declared.Signer.{Signer}
 use Rattle.signing.specs.declared.Signer.the-variants.{Card, Title, System, Extdata, Database}
 
 -- ---- fields
-
--- a number's bytes, the least significant first
-unfoldable pub fieldBytes : (size value : ℕ) → List ℕ
-fieldBytes zero value = []
-fieldBytes (suc size) value = value % 0x100 ∷ fieldBytes size (value / 0x100)
 
 -- fields one after the other
 unfoldable pub laidOut : List Field → List ℕ

@@ -1,6 +1,7 @@
 -- The calls that a signing box makes on an image: only 1, 2 and 15 apply, in that order.
 use mathlib.Core.Bool.{Bool, true, false, cond}
 use mathlib.Core.List.{List, _++_}
+use mathlib.Core.Option.{Option, none, some}
 use Prim.Native.Nat.{ℕ, _-_}
 use lib.ListN.{length, replicate}
 use Rattle.sha256.specs.Sha256.{sha256}
@@ -11,8 +12,7 @@ use Rattle.layout.specs.declared.Outcome.the-variants as outcome
 use Rattle.layout.specs.declared.Refusal.{Refusal}
 use Rattle.layout.specs.declared.Refusal.the-variants.{Length, Format, SignerKind}
 use Rattle.layout.specs.Refusals.{Said, accepts, refuses}
-use Rattle.layout.specs.Magic.{opensWith}
-use Rattle.layout.specs.Headers.{headerBytes, headerMagic}
+use Rattle.layout.specs.Headers.{headerBytes, kindIn}
 use Rattle.limits.specs.Limits.{lengthAllowed}
 use Rattle.signing.specs.declared.Signer.{Signer}
 use Rattle.signing.specs.declared.Built.{Built}
@@ -34,13 +34,17 @@ sameKind Diff Diff = true
 abbrev pub signedAs : Kind → Signer → (header : List ℕ) → Answer
 signedAs kind signer header = cond (sameKind kind (kindOf signer)) (Signs (signingBlock signer header)) (Refused SignerKind)
 
--- 1; 2: the first eight header bytes are neither kind; 15. The header is copied as it is, whatever its other fields say
+-- 2, then 15, of a header's bytes: they are copied as they are, whatever its other fields say
+abbrev pub signedKind : (header : List ℕ) → Signer → Option Kind → Answer
+signedKind header signer none = Refused Format
+signedKind header signer (some kind) = signedAs kind signer header
+
+unfoldable pub signedHeader : (header : List ℕ) → Signer → Answer
+signedHeader header signer = signedKind header signer (kindIn header)
+
+-- 1, then those, of an image
 unfoldable pub signed : List ℕ → Signer → Answer
-signed image signer =
-    cond (lengthAllowed (length image))
-    (cond (opensWith (headerBytes image) (headerMagic Disa)) (signedAs Disa signer (headerBytes image))
-    (cond (opensWith (headerBytes image) (headerMagic Diff)) (signedAs Diff signer (headerBytes image)) (Refused Format)))
-    (Refused Length)
+signed image signer = cond (lengthAllowed (length image)) (signedHeader (headerBytes image) signer) (Refused Length)
 
 -- ---- what the calls leave
 

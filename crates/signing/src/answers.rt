@@ -1,17 +1,16 @@
 // Whether a signer has a block of an image: 1, 2, then 15, and no other refusal.
 use super::Signer;
 use super::shapes::kind_of;
-use layout::FRONT;
-use layout::HEADER;
 use layout::Kind;
 use layout::Outcome;
 use layout::Refusal;
+use layout::headers::header_of;
 use layout::magic::opens_as;
 use limits::length_allowed;
 ghost use mathlib.Core.Path.{_≡_};
 ghost use mathlib.Core.List.{List};
 ghost use Prim.Native.Nat.{ℕ};
-ghost use Rattle.signing.specs.Calls.{sameKind, signedAs, signed, outcomeOf};
+ghost use Rattle.signing.specs.Calls.{sameKind, signedAs, signedHeader, signed, outcomeOf};
 
 // Two kinds are one.
 fn same_kind(a: Kind, b: Kind) -> bool
@@ -40,19 +39,25 @@ fn judge_kind(kind: Kind, signer: Signer) -> Outcome
     }
 }
 
-// 1, 2, then 15.
+// 2, then 15, of a header's bytes.
+pub fn judge_header(header: [u8; 256], signer: Signer) -> Outcome
+    ensures { λ r. ⌜ r ≡ outcomeOf (signedHeader header signer) ⌝ }
+{
+    if opens_as(&header, Kind::Disa) {
+        judge_kind(Kind::Disa, signer)
+    } else if opens_as(&header, Kind::Diff) {
+        judge_kind(Kind::Diff, signer)
+    } else {
+        Outcome::Refused(Refusal::Format)
+    }
+}
+
+// 1, then those of an image's header.
 pub fn judge_signer(image: &[u8], signer: Signer) -> Outcome
     ensures { λ r. ⌜ r ≡ outcomeOf (signed (now (image .entry)) signer) ⌝ }
 {
     if !length_allowed(image.len() as u64) {
         return Outcome::Refused(Refusal::Length);
     }
-    let head = &image[HEADER..FRONT];
-    if opens_as(head, Kind::Disa) {
-        judge_kind(Kind::Disa, signer)
-    } else if opens_as(head, Kind::Diff) {
-        judge_kind(Kind::Diff, signer)
-    } else {
-        Outcome::Refused(Refusal::Format)
-    }
+    judge_header(header_of(image), signer)
 }

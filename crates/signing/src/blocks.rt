@@ -11,9 +11,10 @@ ghost use mathlib.Core.List.{_++_};
 ghost use Prim.Native.Nat.{_+_, _-_, _≤_};
 ghost use lib.ListN.{length, replicate};
 ghost use lib.Seq.{sets};
+ghost use Rattle.number.specs.Fields.{fieldBytes};
 ghost use Rattle.sha256.specs.Sha256.{sha256};
 ghost use Rattle.signing.specs.Placing.{Placing};
-ghost use Rattle.signing.specs.Blocks.{fieldBytes, laidOut, innerBlock, tailOf, signingBlock};
+ghost use Rattle.signing.specs.Blocks.{laidOut, innerBlock, tailOf, signingBlock};
 
 // Stores a field at a place, its least significant byte first.
 pub fn put_field(block: &mut [u8], at: usize, size: u64, value: u64)

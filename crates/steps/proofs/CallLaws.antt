@@ -29,7 +29,8 @@ use Rattle.steps.specs.declared.Verdict.{Verdict}
 use Rattle.steps.specs.declared.Verdict.the-variants as verdict
 use Rattle.steps.specs.declared.Count.the-variants as count
 use Rattle.steps.specs.Reading.{readFrom, verdictOn, countIn}
-use Rattle.steps.specs.Calls.{refusalOf, readCommitted, isVerified, countVerified}
+use Rattle.steps.specs.Calls.{readCommitted, isVerified, countVerified}
+use Rattle.steps.specs.Rules.{refusalOf}
 use Rattle.steps.proofs.ReadLaws.{Leaves}
 
 -- the refusal that a call hands on

@@ -47,17 +47,17 @@ module _ (view : View) (image : List ℕ) (place n first last : ℕ) (w : EndRul
   pub refuse-first : passes first ≡ false → outcome.Refused (Unverified first) ≡ endsOutcome view image place n
   unfolding endsOutcome
   refuse-first e =
-      sym (lowest-refused passes Unverified view place n first outcome.Accepted (w .some) (lowest false (passes last) e refl) (rw (← w .stop) ordered))
+      sym (lowest-refused passes view place n first (w .some) (lowest false (passes last) e refl) (rw (← w .stop) ordered))
 
   pub refuse-last : passes first ≡ true → passes last ≡ false → outcome.Refused (Unverified last) ≡ endsOutcome view image place n
   unfolding endsOutcome
   refuse-last e f =
-      sym (lowest-refused passes Unverified view place n last outcome.Accepted (w .some) (lowest true false e f) (rw (← w .stop) (omega arith)))
+      sym (lowest-refused passes view place n last (w .some) (lowest true false e f) (rw (← w .stop) (omega arith)))
 
   pub refuse-none : passes first ≡ true → passes last ≡ true → outcome.Accepted ≡ endsOutcome view image place n
   unfolding endsOutcome
   refuse-none e f =
-      sym (none-refused passes Unverified view place n (suc last) outcome.Accepted (w .some) (lowest true true e f) (rw (← w .stop) (omega arith)))
+      sym (none-refused passes view place n (suc last) (w .some) (lowest true true e f) (rw (← w .stop) (omega arith)))
 
   pub ends-exist : (first < blocks (view .level4)) × (last < blocks (view .level4))
   ends-exist =
@@ -148,7 +148,7 @@ module _ (view : View) (image : List ℕ) (place n : ℕ) where
     no-ends : n ≡ 0 → endsOutcome view image place n ≡ outcome.Accepted
     unfolding endsOutcome
     no-ends e =
-        nothing-touched (λ (b : ℕ). covered (view .level4) place n b || verified view image 4 b) Unverified view place n outcome.Accepted e
+        nothing-touched (λ (b : ℕ). covered (view .level4) place n b || verified view image 4 b) view place n e
 
     pub write-nothing : n ≡ 0 → outcome.Accepted ≡ writeOutcome view image place n
     write-nothing e = sym (write-inside ∙ no-ends e)

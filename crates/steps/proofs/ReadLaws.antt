@@ -36,22 +36,22 @@ module _ (l : Level) (place n : ℕ) (some : 0 < n) where
   touched-ends = omega (arith, touched-some, first-last)
 
 -- the lowest touched block at which P does not hold, where a search found one, and where it found none
-module _ (P : ℕ → Bool) (refusal : ℕ → Refusal) (view : View) (place n lowest : ℕ) (next : Outcome) (some : 0 < n)
+module _ (P : ℕ → Bool) (view : View) (place n lowest : ℕ) (some : 0 < n)
     (found : lowest ≡ firstNot P (blockOf (view .level4) place) (suc (lastBlock (view .level4) place n) - blockOf (view .level4) place)) where
-  pub lowest-refused : lowest ≤ lastBlock (view .level4) place n → refuseLowest P refusal view place n next ≡ outcome.Refused (refusal lowest)
+  pub lowest-refused : lowest ≤ lastBlock (view .level4) place n → refuseLowest P view place n ≡ outcome.Refused (Unverified lowest)
   unfolding refuseLowest
   lowest-refused h =
       rw (touched-ends (view .level4) place n some, touched-some (view .level4) place n some, ← found, lt-ltb lowest (suc (lastBlock (view .level4) place n)) (omega arith))
 
-  pub none-refused : lastBlock (view .level4) place n < lowest → refuseLowest P refusal view place n next ≡ next
+  pub none-refused : lastBlock (view .level4) place n < lowest → refuseLowest P view place n ≡ outcome.Accepted
   unfolding refuseLowest
   none-refused h =
       rw (touched-ends (view .level4) place n some, touched-some (view .level4) place n some, ← found, le-ltb lowest (suc (lastBlock (view .level4) place n)) (omega arith))
 
 -- a range of no bytes touches none
-pub nothing-touched : (P : ℕ → Bool) (refusal : ℕ → Refusal) (view : View) (place n : ℕ) (next : Outcome) → n ≡ 0 → refuseLowest P refusal view place n next ≡ next
+pub nothing-touched : (P : ℕ → Bool) (view : View) (place n : ℕ) → n ≡ 0 → refuseLowest P view place n ≡ outcome.Accepted
 unfolding refuseLowest touched firstNot
-nothing-touched P refusal view place n next e =
+nothing-touched P view place n e =
     rw (eq-eqb n 0 e, le-ltb (blockOf (view .level4) place) (blockOf (view .level4) place + 0) (omega arith))
 
 -- 9
@@ -77,7 +77,7 @@ accepted-inside view image place n e = go (leb (place + n) (view .level4 .size))
     go : (t : Bool) → leb (place + n) (view .level4 .size) ≡ t → place + n ≤ view .level4 .size
     go true p = leb-true (place + n) (view .level4 .size) p
     go false p =
-        let q : outcome.Refused OutOfRange ≡ outcome.Accepted = sym (outside-refused view place n (refuseLowest (verified view image 4) Unverified view place n outcome.Accepted) p) ∙ e in
+        let q : outcome.Refused OutOfRange ≡ outcome.Accepted = sym (outside-refused view place n (refuseLowest (verified view image 4) view place n) p) ∙ e in
         let z : _≡_ {A = ℕ} 0 1 = cc in
         absurd (omega arith)
 
@@ -94,14 +94,14 @@ module _ (view : View) (image : List ℕ) (place n : ℕ) where
 
   pub read-outside : inside place n (view .level4 .size) ≡ false → outcome.Refused OutOfRange ≡ readOutcome view image place n
   unfolding readOutcome inside
-  read-outside e = sym (outside-refused view place n (refuseLowest (verified view image 4) Unverified view place n outcome.Accepted) e)
+  read-outside e = sym (outside-refused view place n (refuseLowest (verified view image 4) view place n) e)
 
   module _ (i : inside place n (view .level4 .size) ≡ true) where
     pub read-nothing : n ≡ 0 → outcome.Accepted ≡ readOutcome view image place n
     unfolding readOutcome inside
     read-nothing e =
-        sym (inside-passes view place n (refuseLowest (verified view image 4) Unverified view place n outcome.Accepted) i
-        ∙ nothing-touched (verified view image 4) Unverified view place n outcome.Accepted e)
+        sym (inside-passes view place n (refuseLowest (verified view image 4) view place n) i
+        ∙ nothing-touched (verified view image 4) view place n e)
 
     module _ (first last : ℕ) (some : n ≡ 0 → ⊥) (f : first ≡ blockOf (view .level4) place) (l : last ≡ blockOf (view .level4) (place + (n - 1))) where
       pub positive : 0 < n
@@ -129,14 +129,14 @@ module _ (view : View) (image : List ℕ) (place n : ℕ) where
         pub read-lowest : lowest ≤ last → outcome.Refused (Unverified lowest) ≡ readOutcome view image place n
         unfolding readOutcome inside
         read-lowest h =
-            sym (inside-passes view place n (refuseLowest (verified view image 4) Unverified view place n outcome.Accepted) i
-            ∙ lowest-refused (verified view image 4) Unverified view place n lowest outcome.Accepted positive found-is (omega (arith, last-is)))
+            sym (inside-passes view place n (refuseLowest (verified view image 4) view place n) i
+            ∙ lowest-refused (verified view image 4) view place n lowest positive found-is (omega (arith, last-is)))
 
         pub read-all : last < lowest → outcome.Accepted ≡ readOutcome view image place n
         unfolding readOutcome inside
         read-all h =
-            sym (inside-passes view place n (refuseLowest (verified view image 4) Unverified view place n outcome.Accepted) i
-            ∙ none-refused (verified view image 4) Unverified view place n lowest outcome.Accepted positive found-is (omega (arith, last-is)))
+            sym (inside-passes view place n (refuseLowest (verified view image 4) view place n) i
+            ∙ none-refused (verified view image 4) view place n lowest positive found-is (omega (arith, last-is)))
 
 module _ (view : View) (image : List ℕ) (place : ℕ) (buffer : List ℕ) (answer : Outcome) (a : answer ≡ readOutcome view image place (length buffer)) where
   pub view-refused : (r : Refusal) → answer ≡ outcome.Refused r → Leaves (readFrom view image place buffer) answer buffer

@@ -10,7 +10,7 @@ use Rattle.layout.specs.declared.Opened.{Opened}
 use Rattle.layout.specs.Headers.{headerBytes}
 use Rattle.layout.specs.Opening.{opened, openedUnder}
 use Rattle.layout.proofs.UnderLaws.{opened-under}
-use Rattle.commits.specs.Committing.{revertedImage}
+use Rattle.commits.specs.Committing.{storedHeader}
 use Rattle.steps.specs.Sessions.{isValid, revertible}
 use Rattle.number.proofs.Tests.{left-fails}
 
@@ -20,11 +20,11 @@ left-yes a b e = rw e
 module _ (image former later : List ℕ) where
   pub header-changed : sameBytes (headerBytes image) later ≡ false → false ≡ revertible image former later
   unfolding revertible
-  header-changed e = sym (left-fails (sameBytes (headerBytes image) later) (isValid (opened (revertedImage image former))) e)
+  header-changed e = sym (left-fails (sameBytes (headerBytes image) later) (isValid (opened (storedHeader image former))) e)
 
   pub header-same : sameBytes (headerBytes image) later ≡ true → 0x200 ≤ length image → length former ≡ 0x100 → (answer : Opened) → answer ≡ openedUnder former image
       → (valid : Bool) → valid ≡ isValid answer → valid ≡ revertible image former later
-  unfolding revertible revertedImage
+  unfolding revertible storedHeader
   header-same e long full answer a valid v =
       v ∙ ap isValid (a ∙ sym (opened-under image former long full))
       ∙ sym (left-yes (sameBytes (headerBytes image) later) (isValid (opened (sets image 0x100 former))) e)

@@ -29,10 +29,11 @@ use Rattle.steps.specs.declared.Session.{Session}
 use Rattle.steps.specs.declared.Step.{Step}
 use Rattle.steps.specs.Sessions.{idle, begunWith, remembering, begunImage, writeOutcome}
 use Rattle.signing.specs.declared.Signer.{Signer}
-use Rattle.signing.specs.Calls.{Answer, signed, outcomeOf}
-use Rattle.signing.proofs.AnswerLaws.{refused-is, accepted-is}
-use Rattle.commits.specs.Committing.{committedImage, committedSigned, revertedImage, revertedSigned}
-use Rattle.steps.specs.Calls.{refusalOf, After, Stepped, unchanged, done, finished, leaving, begin, writeTo, abandon, Abandoned, beginIn, writeOn, commitOn, commitBy, revertBy}
+use Rattle.signing.specs.Calls.{Answer, signed, outcomeOf, signedHeader}
+use Rattle.signing.proofs.AnswerLaws.{refused-is, accepted-is, accepted-header}
+use Rattle.commits.specs.Committing.{storedHeader, storedSigned, committedImage, committedSigned}
+use Rattle.steps.specs.Calls.{whileIdle, goesOn, After, Stepped, unchanged, done, beginOn, begin, finished, leaving, writeTo, writeOn, commitOn, commitBy, revertOn, revertBy, abandon, Abandoned}
+use Rattle.steps.specs.Rules.{refusalOf}
 use Rattle.steps.proofs.WriteLaws.{write-rules}
 
 -- which arm of a test is taken
@@ -84,7 +85,7 @@ module _ (image : List ℕ) (answer : Opened) (a : answer ≡ opened image) (ses
 
     pub begin-unopened : Stepped step image (begin image session)
     unfolding begin
-    begin-unopened = stepped-refused step image session refusal _ (rw is) s
+    begin-unopened = stepped-refused step image session refusal _ (ap (λ (o : Opened). goesOn image session (beginOn image) (whileIdle session o)) is) s
 
   -- ---- one that does
 
@@ -95,18 +96,17 @@ module _ (image : List ℕ) (answer : Opened) (a : answer ≡ opened image) (ses
     pub guaranteed : Guarantees image c
     guaranteed = guarantees image c valid
 
-    begun-is : begin image session
-        ≡ cond (session .begun) (unchanged image session SessionState) (done (begunImage c image) (begunWith (headerBytes image)))
+    begun-is : begin image session ≡ goesOn image session (beginOn image) (cond (session .begun) (opening.Refused SessionState) (opening.Valid c))
     unfolding begin
-    begun-is = ap (beginIn image session) valid
+    begun-is = ap (λ (o : Opened). goesOn image session (beginOn image) (whileIdle session o)) valid
 
     pub begin-busy : session .begun ≡ true → (step : Step) → Refuses step session SessionState → Stepped step image (begin image session)
-    begin-busy b step s = stepped-refused step image session SessionState _ (begun-is ∙ yes-of (session .begun) _ _ b) s
+    begin-busy b step s = stepped-refused step image session SessionState _ (begun-is ∙ ap (goesOn image session (beginOn image)) (yes-of (session .begun) _ _ b)) s
 
     pub begin-done : session .begun ≡ false → (header left : List ℕ) → header ≡ headerBytes image → left ≡ begunImage c image
         → Stepped (record { outcome = ending.Accepted; session = begunWith header }) left (begin image session)
     begin-done b header left h l =
-        stepped-done _ (begunImage c image) left (begunWith (headerBytes image)) _ (begun-is ∙ no-of (session .begun) _ _ b) refl
+        stepped-done _ (begunImage c image) left (begunWith (headerBytes image)) _ (begun-is ∙ ap (goesOn image session (beginOn image)) (no-of (session .begun) _ _ b)) refl
         (ap begunWith h) l
 
 -- ---- 8
@@ -147,22 +147,27 @@ module _ (image : List ℕ) (c : Container) (session : Session) (key : List ℕ)
 
 -- ---- revert, and the signed one with its 15
 
-pub revert-done : (image : List ℕ) (session next : Session) (former left : List ℕ) → former ≡ session .header → next ≡ idle → left ≡ revertedImage image former
-    → Stepped (record { outcome = ending.Accepted; session = next }) left (done (revertedImage image (session .header)) idle)
-revert-done image session next former left f i l = stepped-done _ (revertedImage image (session .header)) left idle _ refl refl i (l ∙ ap (revertedImage image) f)
+pub revert-done : (image : List ℕ) (c : Container) (session next : Session) (former left : List ℕ) → former ≡ session .header → next ≡ idle → left ≡ storedHeader image former
+    → Stepped (record { outcome = ending.Accepted; session = next }) left (revertOn image session c)
+revert-done image c session next former left f i l = stepped-done _ (storedHeader image (session .header)) left idle _ refl refl i (l ∙ ap (storedHeader image) f)
 
-module _ (image : List ℕ) (session : Session) (key : List ℕ) (signer : Signer) (answer : Outcome) (a : answer ≡ outcomeOf (signed image signer)) where
+module _ (image : List ℕ) (c : Container) (session : Session) (key : List ℕ) (signer : Signer) (former : List ℕ) (f : former ≡ session .header) (answer : Outcome)
+    (a : answer ≡ outcomeOf (signedHeader former signer)) where
+  judged : answer ≡ outcomeOf (signedHeader (session .header) signer)
+  judged = a ∙ ap (λ (x : List ℕ). outcomeOf (signedHeader x signer)) f
+
   pub reverter-unfit : (r : Refusal) → answer ≡ outcome.Refused r → (step : Step) → Refuses step session r
-      → Stepped step image (revertBy image session key signer (signed image signer))
+      → Stepped step image (revertBy image session key signer (signedHeader (session .header) signer) c)
   reverter-unfit r e step s =
-      stepped-refused step image session r _ (ap (revertBy image session key signer) (refused-is (signed image signer) r (sym a ∙ e))) s
+      stepped-refused step image session r _
+      (ap (λ (x : Answer). revertBy image session key signer x c) (refused-is (signedHeader (session .header) signer) r (sym judged ∙ e))) s
 
-  pub revert-signed : answer ≡ outcome.Accepted → (next : Session) (former left : List ℕ) → former ≡ session .header → next ≡ idle
-      → left ≡ revertedSigned image former key signer
-      → Stepped (record { outcome = ending.Accepted; session = next }) left (revertBy image session key signer (signed image signer))
-  revert-signed e next former left f i l =
-      stepped-done _ (revertedSigned image (session .header) key signer) left idle _
-      (ap (revertBy image session key signer) (accepted-is image signer (sym a ∙ e) .0)) refl i (l ∙ ap (λ (x : List ℕ). revertedSigned image x key signer) f)
+  pub revert-signed : answer ≡ outcome.Accepted → (next : Session) (left : List ℕ) → next ≡ idle → left ≡ storedSigned image key signer former
+      → Stepped (record { outcome = ending.Accepted; session = next }) left (revertBy image session key signer (signedHeader (session .header) signer) c)
+  revert-signed e next left i l =
+      stepped-done _ (storedSigned image key signer (session .header)) left idle _
+      (ap (λ (x : Answer). revertBy image session key signer x c) (accepted-header (session .header) signer (sym judged ∙ e))) refl i
+      (l ∙ ap (storedSigned image key signer) f)
 
 -- ---- a write to a partition that is there
 

@@ -43,19 +43,18 @@ inside-accepted view place n next e = go (leb (place + n) (view .level4 .size)) 
     go false p e = absurd (refused e)
 
 -- every touched block keeps to what the check asks
-pub lowest-accepted : (P : ℕ → Bool) (refusal : ℕ → Refusal) (view : View) (place n : ℕ) (next : Outcome)
-    → refuseLowest P refusal view place n next ≡ outcome.Accepted
-    → ((b : ℕ) → touches (view .level4) place n b ≡ true → P b ≡ true) × (next ≡ outcome.Accepted)
+pub lowest-accepted : (P : ℕ → Bool) (view : View) (place n : ℕ) → refuseLowest P view place n ≡ outcome.Accepted
+    → (b : ℕ) → touches (view .level4) place n b ≡ true → P b ≡ true
 unfolding refuseLowest
-lowest-accepted P refusal view place n next e =
+lowest-accepted P view place n e =
     go (ltb (firstNot P (blockOf (view .level4) place) (touched (view .level4) place n)) (blockOf (view .level4) place + touched (view .level4) place n)) refl e
   where
     go : (t : Bool)
         → ltb (firstNot P (blockOf (view .level4) place) (touched (view .level4) place n)) (blockOf (view .level4) place + touched (view .level4) place n) ≡ t
-        → cond t (outcome.Refused (refusal (firstNot P (blockOf (view .level4) place) (touched (view .level4) place n)))) next ≡ outcome.Accepted
-        → ((b : ℕ) → touches (view .level4) place n b ≡ true → P b ≡ true) × (next ≡ outcome.Accepted)
+        → cond t (outcome.Refused (Unverified (firstNot P (blockOf (view .level4) place) (touched (view .level4) place n)))) outcome.Accepted ≡ outcome.Accepted
+        → (b : ℕ) → touches (view .level4) place n b ≡ true → P b ≡ true
     go true p e = absurd (refused e)
-    go false p e = (λ b h. holds b (touches-is (view .level4) place n b h), e)
+    go false p e = λ b h. holds b (touches-is (view .level4) place n b h)
       where
         holds : (b : ℕ) → (0 < n) × (blockOf (view .level4) place ≤ b) × (b ≤ lastBlock (view .level4) place n) → P b ≡ true
         holds b (h, f, k) =
@@ -72,7 +71,7 @@ pub write-accepted : (view : View) (image : List ℕ) (place n : ℕ) → writeO
 unfolding writeOutcome endsOutcome
 write-accepted view image place n e =
     let inner = inside-accepted view place n _ e in
-    (inner .0, lowest-accepted (λ (b : ℕ). covered (view .level4) place n b || verified view image 4 b) Unverified view place n outcome.Accepted (inner .1) .0)
+    (inner .0, lowest-accepted (λ (b : ℕ). covered (view .level4) place n b || verified view image 4 b) view place n (inner .1))
 
 -- ---- the rules that a write asks for are met
 

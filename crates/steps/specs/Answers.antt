@@ -1,5 +1,5 @@
 -- What the answers of the calls say in the paper's terms.
-use Rattle.layout.specs.Refusals.{Said, accepts, refuses}
+use Rattle.layout.specs.Refusals.{Said, accepts, refusal, refuses}
 use Rattle.steps.specs.declared.Verdict.{Verdict}
 use Rattle.steps.specs.declared.Verdict.the-variants as verdict
 use Rattle.steps.specs.declared.Count.{Count}
@@ -22,4 +22,4 @@ countSays (count.Refused r) = refuses r
 abbrev pub endingSays : Ending → Said
 endingSays ending.Accepted = accepts 0
 endingSays (ending.Refused r) = refuses r
-endingSays ending.Dropped = record { number = 17; value = 0 }
+endingSays ending.Dropped = refusal 17

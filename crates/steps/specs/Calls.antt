@@ -10,7 +10,7 @@ use Rattle.layout.specs.declared.Container.{Container}
 use Rattle.layout.specs.declared.Opened.{Opened}
 use Rattle.layout.specs.declared.Opened.the-variants as opening
 use Rattle.layout.specs.declared.Refusal.{Refusal}
-use Rattle.layout.specs.declared.Refusal.the-variants.{Length, NoPartition, SessionState, Stale, NothingToRevert}
+use Rattle.layout.specs.declared.Refusal.the-variants.{NoPartition, SessionState, Stale, NothingToRevert}
 use Rattle.layout.specs.Refusals.{Answers}
 use Rattle.layout.specs.Headers.{headerBytes}
 use Rattle.layout.specs.Opening.{opened}
@@ -31,40 +31,52 @@ use Rattle.steps.specs.Answers.{endingSays}
 use Rattle.steps.specs.Reading.{Read, readFrom, verdictOn, countIn}
 use Rattle.steps.specs.Sessions.{idle, begunWith, remembering, begunImage, current, writeOutcome, revertible}
 use Rattle.signing.specs.declared.Signer.{Signer}
-use Rattle.signing.specs.Calls.{Answer, Signs, Refused, signed}
-use Rattle.commits.specs.Committing.{committedImage, committedSigned, revertedImage, revertedSigned}
+use Rattle.signing.specs.Calls.{Answer, Signs, Refused, signedHeader, signed}
+use Rattle.commits.specs.Committing.{storedHeader, storedSigned, committedImage, committedSigned}
 
--- why opening refuses; of an image that opens nobody asks
-abbrev pub refusalOf : Opened → Refusal
-refusalOf (opening.Refused r) = r
-refusalOf (opening.Valid c) = Length
+-- ---- what a call checks first, of what the image opens as: the container that it goes on with, or a refusal
+
+-- of a session that must be idle: 13
+abbrev pub whileIdle : Session → Opened → Opened
+whileIdle session (opening.Refused r) = opening.Refused r
+whileIdle session (opening.Valid c) = cond (session .begun) (opening.Refused SessionState) (opening.Valid c)
+
+-- of one that must be begun: 13, 14
+abbrev pub whileBegun : List ℕ → Session → Opened → Opened
+whileBegun image session (opening.Refused r) = opening.Refused r
+whileBegun image session (opening.Valid c) =
+    cond (session .begun) (cond (current c image session) (opening.Valid c) (opening.Refused Stale)) (opening.Refused SessionState)
+
+unfoldable pub entered : List ℕ → Session → Opened
+entered image session = whileBegun image session (opened image)
+
+-- of one that remembers a commit: 21
+abbrev pub whileRevertible : List ℕ → Session → Opened → Opened
+whileRevertible image session (opening.Refused r) = opening.Refused r
+whileRevertible image session (opening.Valid c) =
+    cond (revertible image (session .header) (session .later)) (opening.Valid c) (opening.Refused NothingToRevert)
+
+unfoldable pub enteredBack : List ℕ → Session → Opened
+enteredBack image session = whileRevertible image session (whileIdle session (opened image))
 
 -- ---- calls that read
 
 abbrev pub unread : (buffer : List ℕ) → Refusal → Read
 unread buffer r = record { outcome = outcome.Refused r; buffer = buffer }
 
--- opening's refusals, 8, then 9 and 10
-abbrev pub readIn : List ℕ → (q place : ℕ) → (buffer : List ℕ) → Opened → Read
-readIn image q place buffer (opening.Refused r) = unread buffer r
-readIn image q place buffer (opening.Valid c) =
-    cond (ltb q (partitions c)) (readFrom (committedView c q) image place buffer) (unread buffer NoPartition)
+-- a read of a view: what is checked first, 8, then 9 and 10
+abbrev pub readIn : (view : Container → (q : ℕ) → View) → List ℕ → (q place : ℕ) → (buffer : List ℕ) → Opened → Read
+readIn view image q place buffer (opening.Refused r) = unread buffer r
+readIn view image q place buffer (opening.Valid c) =
+    cond (ltb q (partitions c)) (readFrom (view c q) image place buffer) (unread buffer NoPartition)
 
+-- opening's refusals come first
 unfoldable pub readCommitted : List ℕ → (q place : ℕ) → (buffer : List ℕ) → Read
-readCommitted image q place buffer = readIn image q place buffer (opened image)
+readCommitted image q place buffer = readIn committedView image q place buffer (opened image)
 
--- opening's refusals, 13, 14, 8, then 9 and 10
-abbrev pub readStagedIn : List ℕ → Session → (q place : ℕ) → (buffer : List ℕ) → Opened → Read
-readStagedIn image session q place buffer (opening.Refused r) = unread buffer r
-readStagedIn image session q place buffer (opening.Valid c) =
-    cond (session .begun)
-    (cond (current c image session)
-    (cond (ltb q (partitions c)) (readFrom (stagedView c q) image place buffer) (unread buffer NoPartition))
-    (unread buffer Stale))
-    (unread buffer SessionState)
-
+-- those, 13, 14
 unfoldable pub readStaged : List ℕ → Session → (q place : ℕ) → (buffer : List ℕ) → Read
-readStaged image session q place buffer = readStagedIn image session q place buffer (opened image)
+readStaged image session q place buffer = readIn stagedView image q place buffer (entered image session)
 
 -- opening's refusals, 8, then 9, yes or no; it speaks of the committed view
 abbrev pub verifiedIn : List ℕ → (q b : ℕ) → Opened → Verdict
@@ -103,15 +115,17 @@ pub record Stepped (step : Step) (image : List ℕ) (after : After) : Type 0 whe
   pub session : step .session ≡ after .session
   pub stored : image ≡ after .image
 
--- begin: 13 if begun; it remembers the header, and forgets what an idle session remembers
-abbrev pub beginIn : List ℕ → Session → Opened → After
-beginIn image session (opening.Refused r) = unchanged image session r
-beginIn image session (opening.Valid c) =
-    cond (session .begun) (unchanged image session SessionState)
-    (done (begunImage c image) (begunWith (headerBytes image)))
+-- such a call goes on with the container that its first checks give, or is refused
+abbrev pub goesOn : List ℕ → Session → (Container → After) → Opened → After
+goesOn image session next (opening.Refused r) = unchanged image session r
+goesOn image session next (opening.Valid c) = next c
+
+-- begin: it remembers the header, and forgets what an idle session remembers
+abbrev pub beginOn : List ℕ → Container → After
+beginOn image c = done (begunImage c image) (begunWith (headerBytes image))
 
 unfoldable pub begin : List ℕ → Session → After
-begin image session = beginIn image session (opened image)
+begin image session = goesOn image session (beginOn image) (whileIdle session (opened image))
 
 -- a write that is finished: if it holds a digest that is all zero, it is dropped, which is 17, and the session is idle
 unfoldable pub finished : View → (place : ℕ) → (bytes : List ℕ) → Session → (after : List ℕ) → After
@@ -129,57 +143,48 @@ writeTo c image session q place bytes =
     leaving (writeOutcome (stagedView c q) image place (length bytes)) image session
     (finished (stagedView c q) place bytes session (writtenTo (stagedView c q) place bytes image))
 
--- what a call of a begun session checks first: opening's refusals, 13, 14
-abbrev pub inSession : List ℕ → Session → (Container → After) → Opened → After
-inSession image session next (opening.Refused r) = unchanged image session r
-inSession image session next (opening.Valid c) =
-    cond (session .begun) (cond (current c image session) (next c) (unchanged image session Stale)) (unchanged image session SessionState)
-
--- write: these, 8, and the rest
+-- write: what is checked first, 8, and the rest
 abbrev pub writeOn : List ℕ → Session → (q place : ℕ) → List ℕ → Container → After
 writeOn image session q place bytes c =
     cond (ltb q (partitions c)) (writeTo c image session q place bytes) (unchanged image session NoPartition)
 
 unfoldable pub write : List ℕ → Session → (q place : ℕ) → List ℕ → After
-write image session q place bytes = inSession image session (writeOn image session q place bytes) (opened image)
+write image session q place bytes = goesOn image session (writeOn image session q place bytes) (entered image session)
 
 -- a commit that lands: the session remembers the headers before and after
 abbrev pub landed : (image after : List ℕ) → After
 landed image after = done after (remembering (headerBytes image) (headerBytes after))
 
--- commit: these alone
+-- commit: what is checked first, and no more
 abbrev pub commitOn : List ℕ → Container → After
 commitOn image c = landed image (committedImage c image)
 
 unfoldable pub commit : List ℕ → Session → After
-commit image session = inSession image session (commitOn image) (opened image)
+commit image session = goesOn image session (commitOn image) (entered image session)
 
--- a signed commit: these, then 15; the old signature is not looked at
+-- a signed commit: that, then 15; the old signature is not looked at
 abbrev pub commitBy : List ℕ → Session → (key : List ℕ) → Signer → Answer → Container → After
 commitBy image session key signer (Refused r) c = unchanged image session r
 commitBy image session key signer (Signs block) c = landed image (committedSigned c image key signer)
 
 unfoldable pub commitSigned : List ℕ → Session → (key : List ℕ) → Signer → After
-commitSigned image session key signer = inSession image session (commitBy image session key signer (signed image signer)) (opened image)
+commitSigned image session key signer = goesOn image session (commitBy image session key signer (signed image signer)) (entered image session)
 
--- what a revert checks: opening's refusals under the present header, 13 if begun, 21
-abbrev pub reverting : List ℕ → Session → After → Opened → After
-reverting image session next (opening.Refused r) = unchanged image session r
-reverting image session next (opening.Valid c) =
-    cond (session .begun) (unchanged image session SessionState)
-    (cond (revertible image (session .header) (session .later)) next (unchanged image session NothingToRevert))
+-- revert: what is checked first, and no more; the header before the last commit is stored, and the session forgets
+abbrev pub revertOn : List ℕ → Session → Container → After
+revertOn image session c = done (storedHeader image (session .header)) idle
 
--- revert: these alone; it forgets
 unfoldable pub revert : List ℕ → Session → After
-revert image session = reverting image session (done (revertedImage image (session .header)) idle) (opened image)
+revert image session = goesOn image session (revertOn image session) (enteredBack image session)
 
--- a signed revert: these, then 15
-abbrev pub revertBy : List ℕ → Session → (key : List ℕ) → Signer → Answer → After
-revertBy image session key signer (Refused r) = unchanged image session r
-revertBy image session key signer (Signs block) = done (revertedSigned image (session .header) key signer) idle
+-- a signed revert: that, then 15, by the header that it restores
+abbrev pub revertBy : List ℕ → Session → (key : List ℕ) → Signer → Answer → Container → After
+revertBy image session key signer (Refused r) c = unchanged image session r
+revertBy image session key signer (Signs block) c = done (storedSigned image key signer (session .header)) idle
 
 unfoldable pub revertSigned : List ℕ → Session → (key : List ℕ) → Signer → After
-revertSigned image session key signer = reverting image session (revertBy image session key signer (signed image signer)) (opened image)
+revertSigned image session key signer =
+    goesOn image session (revertBy image session key signer (signedHeader (session .header) signer)) (enteredBack image session)
 
 -- abandon: 13 alone; it does not look at the image
 pub record Abandoned : Type 0 where

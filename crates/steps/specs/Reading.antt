@@ -7,7 +7,6 @@ use lib.Dec.{leb, ltb, eqb}
 use Rattle.number.specs.declared.Level.{Level}
 use Rattle.number.specs.Blocks.{blocks, blockOf, lastBlock}
 use Rattle.number.specs.Bytes.{bytes}
-use Rattle.layout.specs.declared.Refusal.{Refusal}
 use Rattle.layout.specs.declared.Refusal.the-variants.{OutOfRange, Unverified}
 use Rattle.ivfc.specs.declared.View.{View}
 use Rattle.ivfc.specs.Views.{contentOf, verified}
@@ -23,13 +22,13 @@ use Rattle.steps.specs.declared.Count.the-variants as count
 unfoldable pub touched : Level → (place n : ℕ) → ℕ
 touched l place n = cond (eqb n 0) 0 (suc (lastBlock l place n) - blockOf l place)
 
--- the lowest touched block of level 4 at which P does not hold is refused; with none the call goes on
-unfoldable pub refuseLowest : (ℕ → Bool) → (ℕ → Refusal) → View → (place n : ℕ) → Outcome → Outcome
-refuseLowest P refusal view place n next =
+-- 10: the lowest touched block of level 4 at which P does not hold is refused; with none the call is accepted
+unfoldable pub refuseLowest : (P : ℕ → Bool) → View → (place n : ℕ) → Outcome
+refuseLowest P view place n =
     cond (ltb (firstNot P (blockOf (view .level4) place) (touched (view .level4) place n))
     (blockOf (view .level4) place + touched (view .level4) place n))
-    (outcome.Refused (refusal (firstNot P (blockOf (view .level4) place) (touched (view .level4) place n))))
-    next
+    (outcome.Refused (Unverified (firstNot P (blockOf (view .level4) place) (touched (view .level4) place n))))
+    outcome.Accepted
 
 -- 9: place plus length, as whole numbers, exceeds level 4's size
 unfoldable pub refuseOutside : View → (place n : ℕ) → Outcome → Outcome
@@ -37,8 +36,7 @@ refuseOutside view place n next = cond (leb (place + n) (view .level4 .size)) ne
 
 -- a read: 9, then 10 with the lowest touched block that is not verified
 unfoldable pub readOutcome : View → List ℕ → (place n : ℕ) → Outcome
-readOutcome view image place n =
-    refuseOutside view place n (refuseLowest (verified view image 4) Unverified view place n outcome.Accepted)
+readOutcome view image place n = refuseOutside view place n (refuseLowest (verified view image 4) view place n)
 
 -- what a read leaves: its outcome, and the buffer
 pub record Read : Type 0 where

@@ -9,8 +9,8 @@ use Rattle.number.specs.Ranges.{part}
 use Rattle.number.specs.Bytes.{within, sameBytes}
 use Rattle.layout.specs.declared.Slot.{Slot}
 use Rattle.layout.specs.declared.Container.{Container}
-use Rattle.layout.specs.declared.Refusal.the-variants.{Unverified}
 use Rattle.layout.specs.declared.Opened.{Opened}
+use Rattle.layout.specs.Descriptors.{selectorOffset}
 use Rattle.layout.specs.declared.Opened.the-variants as opening
 use Rattle.layout.specs.Headers.{headerBytes}
 use Rattle.layout.specs.Tables.{active, inactive}
@@ -19,10 +19,9 @@ use Rattle.dpfs.specs.Staging.{begun}
 use Rattle.ivfc.specs.declared.View.{View}
 use Rattle.ivfc.specs.Views.{verified}
 use Rattle.update.specs.Covering.{covered}
-use Rattle.commits.specs.Committing.{revertedImage}
+use Rattle.commits.specs.Committing.{storedHeader}
 use Rattle.views.specs.Places.{partitions, slotOf, partitionOf, treeOf}
 use Rattle.layout.specs.declared.Outcome.{Outcome}
-use Rattle.layout.specs.declared.Outcome.the-variants as outcome
 use Rattle.steps.specs.declared.Session.{Session}
 use Rattle.steps.specs.Reading.{refuseOutside, refuseLowest}
 
@@ -44,9 +43,9 @@ remembering former later = record { begun = false; header = former; later = late
 
 -- ---- begin
 
--- where a partition's selector stands in a table: byte 0x39 of its descriptor
+-- where a partition's selector stands in a table
 abbrev pub selectorPlace : Slot → ℕ
-selectorPlace slot = slot .descriptor .offset + 0x39
+selectorPlace slot = slot .descriptor .offset + selectorOffset
 
 -- a table with partition q's selector flipped
 unfoldable pub selectorFlipped : Container → (q : ℕ) → (table : List ℕ) → List ℕ
@@ -99,7 +98,7 @@ current c image session = sameBytes (headerBytes image) (session .header) && tab
 -- 10: a touched block that the write covers only in part is not verified
 unfoldable pub endsOutcome : View → List ℕ → (place n : ℕ) → Outcome
 endsOutcome view image place n =
-    refuseLowest (λ (b : ℕ). covered (view .level4) place n b || verified view image 4 b) Unverified view place n outcome.Accepted
+    refuseLowest (λ (b : ℕ). covered (view .level4) place n b || verified view image 4 b) view place n
 
 -- 9, 10: the last with the lowest block to which it applies
 unfoldable pub writeOutcome : View → List ℕ → (place n : ℕ) → Outcome
@@ -111,6 +110,6 @@ abbrev pub isValid : Opened → Bool
 isValid (opening.Valid c) = true
 isValid (opening.Refused r) = false
 
--- the present header is as remembered, and the image opens under the former; else the call is refused with 21
+-- the present header is as remembered, and the image opens under the former one; else the call is refused with 21
 unfoldable pub revertible : List ℕ → (former later : List ℕ) → Bool
-revertible image former later = sameBytes (headerBytes image) later && isValid (opened (revertedImage image former))
+revertible image former later = sameBytes (headerBytes image) later && isValid (opened (storedHeader image former))

@@ -5,7 +5,7 @@ use layout::Refusal;
 ghost use mathlib.Core.Path.{_≡_};
 ghost use lib.Dec.{ltb};
 ghost use Rattle.views.specs.Places.{partitions};
-ghost use Rattle.steps.specs.Calls.{refusalOf};
+ghost use Rattle.steps.specs.Rules.{refusalOf};
 
 // Why opening refuses an image.
 pub fn refusal_of(answer: Opened) -> Refusal

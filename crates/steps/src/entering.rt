@@ -5,11 +5,12 @@ use super::staleness::is_current;
 use layout::Opened;
 use layout::Refusal;
 use layout::opening::open;
-ghost use Rattle.steps.specs.Rules.{Enters, StepsBack};
+ghost use mathlib.Core.Path.{_≡_};
+ghost use Rattle.steps.specs.Calls.{entered, enteredBack};
 
 // For a call of a begun session: 13 and 14.
 pub fn enter(image: &[u8], session: Session) -> Opened
-    ensures { λ r. ⌜ Enters (now (image .entry)) session r ⌝ }
+    ensures { λ r. ⌜ r ≡ entered (now (image .entry)) session ⌝ }
 {
     let answer = open(image);
     let Opened::Valid(c) = answer else {
@@ -26,7 +27,7 @@ pub fn enter(image: &[u8], session: Session) -> Opened
 
 // For a step back: 13 if begun, and 21.
 pub fn enter_back(image: &[u8], session: Session) -> Opened
-    ensures { λ r. ⌜ StepsBack (now (image .entry)) session r ⌝ }
+    ensures { λ r. ⌜ r ≡ enteredBack (now (image .entry)) session ⌝ }
 {
     let answer = open(image);
     let Opened::Valid(_c) = answer else {

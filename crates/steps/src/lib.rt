@@ -1,4 +1,4 @@
-// What the public calls are made of: their answers, a session's value, judging, and the stores of begin, write and commit.
+// What the public calls are made of: their answers, a session's value, what is judged, and the stores of begin and write.
 use layout::Refusal;
 
 pub mod answers;

@@ -1,6 +1,6 @@
-// The stores of begin and write. `store` is the only function that stores a byte of an image before a commit; its `requires` says that the
-// space is that of the container that the image opens as, and the place free in it, so that nothing which the committed view rests on is ever
-// stored to, not even for a moment.
+// The stores of begin and write. `store` is the only function that stores a byte of an image before a commit, but for those of an external level 4
+// that are written in place (update's `store_outside`); its `requires` says that the space is that of the container that the image opens as, and the
+// place free in it, so that nothing which the committed view rests on is ever stored to, not even for a moment.
 use dpfs::Space;
 use dpfs::Tree;
 use dpfs::bits::bit_place;
@@ -27,7 +27,7 @@ ghost use Rattle.dpfs.specs.Staging.{OffLive2, same, blockCopied, moved2, moved
 ghost use Rattle.dpfs.specs.Rules.{Among, blockRest};
 ghost use Rattle.stores.specs.Rules.{OwnSpace, CopyRules, BlockRules};
 
-// The one store to an image before a commit: at a free place of the image's own space.
+// The one store beside what is committed: at a free place of the image's own space.
 pub fn store(space: Space, image: &mut [u8], i: u64, value: u8)
     requires { ⌜ (OwnSpace space (now image)) × (Free space (now image) i) × (i < length (now image)) ⌝ }
     ensures { λ _. ⌜ now (image .exit) ≡ set (now (image .entry)) i value ⌝ }

@@ -10,6 +10,7 @@ use Rattle.layout.specs.declared.Partition.{Partition}
 use Rattle.layout.specs.declared.Second.{Second}
 use Rattle.layout.specs.declared.Second.the-variants.{Missing, There}
 use Rattle.layout.specs.declared.Container.{Container}
+use Rattle.layout.specs.Descriptors.{externalRange}
 use Rattle.layout.specs.Tables.{active, inactive}
 use Rattle.dpfs.specs.declared.Tree.{Tree}
 use Rattle.dpfs.specs.declared.Space.{Space}
@@ -43,6 +44,10 @@ treeIn slot p = record {
   live = eqb (p .difi .selector) 1;
 }
 
+-- where an external level 4 stands in the image
+abbrev pub externalIn : Slot → Partition → Range
+externalIn slot p = record { offset = slot .partition .offset + externalRange p .offset; size = externalRange p .size }
+
 -- where the partition's master hash stands in the image, by its descriptor in a table
 unfoldable pub masterIn : (table : Range) → Slot → Partition → Range
 masterIn table slot p = record {
@@ -61,7 +66,7 @@ viewIn table slot p half = record {
   level3 = p .ivfc .level3;
   level4 = p .ivfc .level4;
   external = p .difi .external;
-  outside = slot .partition .offset + p .difi .outside;
+  outside = externalIn slot p .offset;
 }
 
 abbrev pub treeOf : Container → (q : ℕ) → Tree
@@ -75,6 +80,6 @@ committedView c q = viewIn (active (c .header)) (slotOf c q) (partitionOf c q) (
 unfoldable pub stagedView : Container → (q : ℕ) → View
 stagedView c q = viewIn (inactive (c .header)) (slotOf c q) (partitionOf c q) (not (treeOf c q .live))
 
--- what a session may store to: the inactive table, and in each partition's DPFS what is not live
+-- what a session may store to, beside an external level 4: the inactive table, and in each partition's DPFS what is not live
 unfoldable pub spaceOf : Container → Space
 spaceOf c = record { table = inactive (c .header); a = treeOf c 0; b = treeOf c 1; two = eqb (partitions c) 2 }

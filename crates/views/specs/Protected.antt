@@ -1,10 +1,11 @@
--- 01's list of the bytes that no call but commit changes, whatever session value is handed in. That they are exactly the bytes that are not
--- free is shown in proofs/ProtectedLaws.antt.
+-- 01's list of the bytes that no call but commit changes, whatever session value is handed in, and what it is for an image to agree with another
+-- one on them.
 use mathlib.Core.Path.{_≡_}
 use mathlib.Core.List.{List}
 use mathlib.Core.Bool.{Bool, true}
 use mathlib.Core.Logic.{_⊎_}
-use Prim.Native.Nat.{ℕ, _+_, _<_}
+use Prim.Native.Nat.{ℕ, _<_}
+use lib.ListN.{length, getD}
 use Rattle.number.specs.declared.Range.{Range}
 use Rattle.number.specs.declared.Level.{Level}
 use Rattle.number.specs.Blocks.{blockOf}
@@ -14,7 +15,7 @@ use Rattle.layout.specs.Tables.{active, inactive}
 use Rattle.dpfs.specs.declared.Tree.{Tree}
 use Rattle.dpfs.specs.Tree.{place, select1, select2, select3}
 use Rattle.dpfs.specs.Free.{InRange}
-use Rattle.views.specs.Places.{partitions, slotOf, partitionOf, treeOf}
+use Rattle.views.specs.Places.{partitions, slotOf, partitionOf, externalIn, treeOf}
 use Rattle.number.specs.Ranges.{levelRange, twice}
 
 -- i is the place of a level's byte in the copy that the selection names
@@ -32,11 +33,11 @@ LiveIn tree image i =
 abbrev pub pairRange : Level → Range
 pairRange l = twice (levelRange l)
 
--- an external level 4 at its place in the image
+-- a byte of an external level 4
 unfoldable pub ExternalByte : Container → (q i : ℕ) → Type 0
 ExternalByte c q i =
     (partitionOf c q .difi .external ≡ true)
-    × InRange (record { offset = slotOf c q .partition .offset + partitionOf c q .difi .outside; size = partitionOf c q .ivfc .level4 .size }) i
+    × InRange (externalIn (slotOf c q) (partitionOf c q)) i
 
 -- partition q's fields name a byte: one of its pairs, or its external level 4
 unfoldable pub NamedBy : Container → (q i : ℕ) → Type 0
@@ -62,3 +63,12 @@ Protected c image i =
     ⊎ (((q : ℕ) × (q < partitions c) × LiveIn (treeOf c q) image i)
     ⊎ (((q : ℕ) × (q < partitions c) × ExternalByte c q i)
     ⊎ (Named c i → ⊥))))
+
+-- an image of the same length that agrees with another one on these bytes, but for those in W (02, W10: what is written in place)
+pub record AgreesBut (W : ℕ → Type 0) (c : Container) (image left : List ℕ) : Type 0 where
+  pub size : length left ≡ length image
+  pub bytes : (i : ℕ) → Protected c image i → (W i → ⊥) → getD left i 0 ≡ getD image i 0
+
+-- on all of them
+abbrev pub Agrees : Container → (image left : List ℕ) → Type 0
+Agrees c image left = AgreesBut (λ i. ⊥) c image left

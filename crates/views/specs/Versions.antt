@@ -9,7 +9,7 @@ use Rattle.ivfc.specs.declared.View.{View}
 use Rattle.ivfc.specs.Views.{contentOf}
 use Rattle.ivfc.specs.Views as ivfc
 
--- `level` is level 4's size and the logarithm of its blocks
+-- `level` is level 4: its size and the logarithm of its blocks tell which bytes are a block's
 pub record Version : Type 0 where
   pub level : Level
   pub bytes : List ℕ

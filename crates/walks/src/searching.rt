@@ -14,6 +14,7 @@ use names::hashing::bucket_of;
 use number::runs::same_bytes;
 ghost use mathlib.Core.Path.{_≡_};
 ghost use mathlib.Core.Bool.{false};
+ghost use mathlib.Core.List.{[]};
 ghost use Prim.Native.Nat.{_+_, _*_, _≤_, _<_};
 ghost use lib.ListN.{length};
 ghost use Rattle.ivfc.specs.Rules.{ViewRules};
@@ -74,7 +75,7 @@ fn search_chain(
     name: &[u8],
 ) -> Search
     requires { ⌜ (Legible view (now image) (now known)) × (Searchable s (view .level4 .log) (view .level4 .size)) ⌝ }
-    ensures { λ r. ⌜ r ≡ chain s (versionOf view (now (image .entry)) .bytes) (versionOf view (now (image .entry)) .verified) parent (now (name .entry)) first ⌝ }
+    ensures { λ r. ⌜ r ≡ chain s (versionOf view (now (image .entry)) .bytes) (versionOf view (now (image .entry)) .verified) parent (now (name .entry)) first [] ⌝ }
 {
     let mut f = first;
     let mut steps = s.files.max + 1;

@@ -1,12 +1,11 @@
 -- `commits::store_signed` meets its contract. Assumes nothing.
-use mathlib.Core.Path.{ap, _∙_}
-use mathlib.Core.List.{List}
-use Prim.Native.Nat.{ℕ}
-use lib.Seq.{sets}
-use Rattle.commits.specs.Committing.{storedSigned}
 use borrow.Author.Needs.{needs}
+use Rattle.commits.proofs.HeaderLaws.{signed-stored}
 use Rattle.commits.proofs.store_signed.Statement.{statement}
 use Rattle.commits.proofs.store_signed.Tie as tie
+
+sign-requires : tie.Need-sign-requires
+sign-requires c κs = search needs
 
 slice-aggregate-copy-into : tie.Need-slice-aggregate-copy-into
 slice-aggregate-copy-into c = search needs
@@ -24,13 +23,15 @@ same-length : tie.Need-same-length
 same-length c = search needs
 
 returns : tie.Need-returns
-unfolding storedSigned
-returns c = c .before .before .copy-into2 .ensures ∙ ap (λ (l : List ℕ). sets l 0x100 (c .before .before .before .before .before .before .before .before .before .before .before .args .t3)) (c .before .before .before .before .before .before .before .copy-into .ensures)
+returns c =
+    signed-stored _ _ _ _ _ _ _ (c .before .before .before .before .before .before .before .before .before .before .sign .ensures)
+    (c .before .before .before .before .before .before .before .copy-into .ensures) (c .before .before .copy-into2 .ensures)
 
 pub store-signed-spec : {M : Type 1} → statement M
 store-signed-spec =
     tie.close
     (tie.spec
+    sign-requires
     slice-aggregate-copy-into
     copy-into-requires
     slice-aggregate-copy-into-2

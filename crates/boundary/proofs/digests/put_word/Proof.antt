@@ -3,8 +3,7 @@ use mathlib.Core.Path.{ap, _∙_}
 use mathlib.Core.List.{List}
 use Prim.Native.Nat.{ℕ}
 use native.Mathlib.Omega.{arith}
-use Rattle.number.specs.Fields.{le32}
-use Rattle.signing.specs.Blocks.{fieldBytes}
+use Rattle.number.specs.Fields.{le32, fieldBytes}
 use Rattle.boundary.proofs.StateLaws.{word-in, word-before}
 use borrow.Author.Needs.{needs}
 use Rattle.boundary.proofs.digests.put_word.Statement.{statement}

@@ -1,5 +1,5 @@
 -- `container::sessions::revert` meets its contract. Assumes nothing.
-use Rattle.steps.specs.Calls.{revert}
+use Rattle.steps.specs.Calls.{revertOn, revert}
 use Rattle.steps.proofs.EnterLaws.{back-refuses, back-goes-on, back-well}
 use Rattle.steps.proofs.SessionLaws.{revert-done}
 use mathlib.Core.Path.{refl}
@@ -29,8 +29,8 @@ returns : tie.Need-returns
 unfolding revert
 returns c = back-refuses _ _ _ (c .before .before .before .before .enter-back .ensures) _ _ (c .before .before .enum-told .given .1) (c .before .refusal-of .ensures) _ _ (c .refused .ensures)
 
-restore-requires : tie.Need-restore-requires
-restore-requires c κs = back-well _ _ _ (c .before .before .before .before .before .enter-back .ensures) _ (c .before .before .before .answer .given .1) .shortest
+store-header-requires : tie.Need-store-header-requires
+store-header-requires c κs = back-well _ _ _ (c .before .before .before .before .before .enter-back .ensures) _ (c .before .before .before .answer .given .1) .shortest
 
 new-requires : tie.Need-new-requires
 new-requires c κs = search needs
@@ -40,8 +40,10 @@ same-length-2 c = search needs
 
 returns-2 : tie.Need-returns-2
 unfolding revert
-returns-2 c = back-goes-on _ _ _ (c .before .before .before .before .before .before .before .before .before .enter-back .ensures) _ (c .before .before .before .before .before .before .before .answer .given .1) _ _ _
-    (revert-done _ (c .before .before .before .before .before .before .before .before .before .before .before .before .args .session) _ _ _ refl (c .new .ensures) (c .before .before .before .restore .ensures))
+returns-2 c =
+    let s = c .before .before .before .before .before .before .before .before .before .before .before .before in
+    back-goes-on _ _ _ (c .before .before .before .before .before .before .before .before .before .enter-back .ensures) _ (c .before .before .before .before .before .before .before .answer .given .1) (revertOn (s .args .image .now) (s .args .session)) _ _
+    (revert-done (s .args .image .now) (c .before .before .before .before .before .before .before .answer .given .0 .0) (s .args .session) _ _ _ refl (c .new .ensures) (c .before .before .before .store-header .ensures))
 
 pub revert-spec : {M : Type 1} → statement M
 revert-spec =
@@ -54,7 +56,7 @@ revert-spec =
     refused-requires
     same-length
     returns
-    restore-requires
+    store-header-requires
     new-requires
     same-length-2
     returns-2)

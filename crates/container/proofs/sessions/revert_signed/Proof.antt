@@ -1,5 +1,6 @@
 -- `container::sessions::revert_signed` meets its contract. Assumes nothing.
-use Rattle.steps.specs.Calls.{revertSigned}
+use Rattle.signing.specs.Calls.{signedHeader}
+use Rattle.steps.specs.Calls.{revertBy, revertSigned}
 use Rattle.steps.proofs.EnterLaws.{back-refuses, back-goes-on, back-well}
 use Rattle.steps.proofs.SessionLaws.{reverter-unfit, revert-signed}
 use mathlib.Core.Path.{refl}
@@ -29,8 +30,8 @@ returns : tie.Need-returns
 unfolding revertSigned
 returns c = back-refuses _ _ _ (c .before .before .before .before .enter-back .ensures) _ _ (c .before .before .enum-told .given .1) (c .before .refusal-of .ensures) _ _ (c .refused .ensures)
 
-judge-signer-requires : tie.Need-judge-signer-requires
-judge-signer-requires c κs = search needs
+judge-header-requires : tie.Need-judge-header-requires
+judge-header-requires c κs = search needs
 
 enum-known-refusal : tie.Need-enum-known-refusal
 enum-known-refusal c = search needs
@@ -41,8 +42,8 @@ refused-requires-2 c κs = search needs
 enum-told-2 : tie.Need-enum-told-2
 enum-told-2 c = search needs
 
-restore-signed-requires : tie.Need-restore-signed-requires
-restore-signed-requires c κs = back-well _ _ _ (c .before .before .before .before .before .before .before .before .before .enter-back .ensures) _ (c .before .before .before .before .before .before .before .answer .given .1) .shortest
+store-signed-requires : tie.Need-store-signed-requires
+store-signed-requires c κs = back-well _ _ _ (c .before .before .before .before .before .before .before .before .enter-back .ensures) _ (c .before .before .before .before .before .before .answer .given .1) .shortest
 
 new-requires : tie.Need-new-requires
 new-requires c κs = search needs
@@ -52,16 +53,20 @@ same-length-2 c = search needs
 
 returns-2 : tie.Need-returns-2
 unfolding revertSigned
-returns-2 c = back-goes-on _ _ _ (c .before .before .before .before .before .before .before .before .before .before .enter-back .ensures) _ (c .before .before .before .before .before .before .before .before .answer .given .1) _ _ _
-    (reverter-unfit _ _ _ _ _ (c .before .before .before .before .judge-signer .ensures) _ (c .before .before .refusal .given .1) _ (c .refused2 .ensures))
+returns-2 c =
+    let s = c .before .before .before .before .before .before .before .before .before .before .before .before in
+    back-goes-on _ _ _ (c .before .before .before .before .before .before .before .before .before .enter-back .ensures) _ (c .before .before .before .before .before .before .before .answer .given .1) (revertBy (s .args .image .now) (s .args .session) (s .args .key) (s .args .signer) (signedHeader (s .args .session .header) (s .args .signer))) _ _
+    (reverter-unfit (s .args .image .now) (c .before .before .before .before .before .before .before .answer .given .0 .0) (s .args .session) (s .args .key) (s .args .signer) _ refl _ (c .before .before .before .before .judge-header .ensures) _ (c .before .before .refusal .given .1) _ (c .refused2 .ensures))
 
 same-length-3 : tie.Need-same-length-3
 same-length-3 c = search needs
 
 returns-3 : tie.Need-returns-3
 unfolding revertSigned
-returns-3 c = back-goes-on _ _ _ (c .before .before .before .before .before .before .before .before .before .before .before .before .before .enter-back .ensures) _ (c .before .before .before .before .before .before .before .before .before .before .before .answer .given .1) _ _ _
-    (revert-signed _ _ _ _ _ (c .before .before .before .before .before .before .before .judge-signer .ensures) (c .before .before .before .before .before .enum-told2 .given .1) _ _ _ refl (c .new .ensures) (c .before .before .before .restore-signed .ensures))
+returns-3 c =
+    let s = c .before .before .before .before .before .before .before .before .before .before .before .before .before .before .before in
+    back-goes-on _ _ _ (c .before .before .before .before .before .before .before .before .before .before .before .before .enter-back .ensures) _ (c .before .before .before .before .before .before .before .before .before .before .answer .given .1) (revertBy (s .args .image .now) (s .args .session) (s .args .key) (s .args .signer) (signedHeader (s .args .session .header) (s .args .signer))) _ _
+    (revert-signed (s .args .image .now) (c .before .before .before .before .before .before .before .before .before .before .answer .given .0 .0) (s .args .session) (s .args .key) (s .args .signer) _ refl _ (c .before .before .before .before .before .before .before .judge-header .ensures) (c .before .before .before .before .before .enum-told2 .given .1) _ _ (c .new .ensures) (c .before .before .before .store-signed .ensures))
 
 pub revert-signed-spec : {M : Type 1} → statement M
 revert-signed-spec =
@@ -74,11 +79,11 @@ revert-signed-spec =
     refused-requires
     same-length
     returns
-    judge-signer-requires
+    judge-header-requires
     enum-known-refusal
     refused-requires-2
     enum-told-2
-    restore-signed-requires
+    store-signed-requires
     new-requires
     same-length-2
     returns-2

@@ -8,7 +8,7 @@ use denote.Enum.Declared.{tagOf}
 use Rattle.layout.proofs.Refusal.{the-type}
 use Rattle.layout.specs.declared.Refusal.{Refusal}
 use Rattle.layout.specs.declared.Refusal.the-variants.{Length, Format, Selection, Geometry, TableHash, Descriptor, Placement, NoPartition, OutOfRange, Unverified, SessionState, Stale, SignerKind, Signature, InvalidEntry, NoSave, BlankSize, NothingToRevert, DigestTooLong}
-use Rattle.layout.specs.Refusals.{carried}
+use Rattle.layout.specs.Refusals.{refuses}
 use Rattle.layout.proofs.refusals.carried_by.Statement.{statement}
 use Rattle.layout.proofs.refusals.carried_by.Tie as tie
 
@@ -16,7 +16,7 @@ use Rattle.layout.proofs.refusals.carried_by.Tie as tie
 abbrev others : List ℕ
 others = 0 ∷ 1 ∷ 2 ∷ 3 ∷ 4 ∷ 5 ∷ 6 ∷ 7 ∷ 8 ∷ 10 ∷ 11 ∷ 12 ∷ 13 ∷ 14 ∷ 15 ∷ 16 ∷ 17 ∷ 18 ∷ []
 
-others-carry-nothing : (r : Refusal) → OneOf others (tagOf the-type r) → 0 ≡ carried r
+others-carry-nothing : (r : Refusal) → OneOf others (tagOf the-type r) → 0 ≡ refuses r .value
 others-carry-nothing Length h = refl
 others-carry-nothing Format h = refl
 others-carry-nothing Selection h = refl
@@ -44,7 +44,7 @@ returns : tie.Need-returns
 returns c = others-carry-nothing (c .before .args .r) (c .match .keys2)
 
 returns-2 : tie.Need-returns-2
-returns-2 c = sym (ap carried (c .before .r .given .1))
+returns-2 c = sym (ap (λ (r : Refusal). refuses r .value) (c .before .r .given .1))
 
 pub carried-by-spec : {M : Type 1} → statement M
 carried-by-spec = tie.close (tie.spec enum-known-r returns returns-2)

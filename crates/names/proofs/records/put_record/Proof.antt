@@ -1,7 +1,9 @@
 -- `names::records::put_record` meets its contract. Assumes nothing.
-use mathlib.Core.Path.{refl}
+use mathlib.Core.Path.{ap, _∙_}
+use Prim.Native.Nat.{_*_}
+use lib.Seq.{sets}
 use Rattle.names.specs.Records.{head}
-use Rattle.names.proofs.MeetLaws.{record-put}
+use Rattle.names.proofs.MeetLaws.{head-bytes, head-length, record-put}
 use borrow.Author.Needs.{needs}
 use Rattle.names.proofs.records.put_record.Statement.{statement}
 use Rattle.names.proofs.records.put_record.Tie as tie
@@ -40,7 +42,7 @@ same-length : tie.Need-same-length
 same-length c = search needs
 
 returns : tie.Need-returns
-returns c = record-put (c .before .before .before .before .before .before .before .before .before .before .before .args .row .now) _ _ (c .before .before .before .before .before .before .before .before .before .before .before .args .i) (head (c .before .before .before .before .before .before .before .before .before .before .before .args .kind) (c .before .before .before .before .before .before .before .before .before .before .before .args .e)) (c .before .before .before .before .before .before .before .before .before .before .before .args .name .now) (c .before .before .before .before .before .before .before .before .before .before .before .pre .0) refl (c .before .before .before .before .before .before .copy-into .ensures) (c .before .before .copy-into2 .ensures)
+returns c = record-put (c .before .before .before .before .before .before .before .before .before .before .before .args .row .now) _ _ (c .before .before .before .before .before .before .before .before .before .before .before .args .i) (head (c .before .before .before .before .before .before .before .before .before .before .before .args .kind) (c .before .before .before .before .before .before .before .before .before .before .before .args .e)) (c .before .before .before .before .before .before .before .before .before .before .before .args .name .now) (c .before .before .before .before .before .before .before .before .before .before .before .pre .0) (head-length (c .before .before .before .before .before .before .before .before .before .before .before .args .kind) (c .before .before .before .before .before .before .before .before .before .before .before .args .e)) (c .before .before .before .before .before .before .copy-into .ensures ∙ ap (sets (c .before .before .before .before .before .before .before .before .before .before .before .args .row .now) (24 * c .before .before .before .before .before .before .before .before .before .before .before .args .i)) (head-bytes (c .before .before .before .before .before .before .before .before .before .before .before .args .kind) (c .before .before .before .before .before .before .before .before .before .before .before .args .e) (search needs))) (c .before .before .copy-into2 .ensures)
 
 pub put-record-spec : {M : Type 1} → statement M
 put-record-spec =

@@ -5,7 +5,7 @@ use native.Mathlib.Omega.{arith}
 use lib.ListN.{length, length-set}
 use lib.Seq.{sets}
 use borrow.Author.Needs.{needs}
-use Rattle.signing.specs.Blocks.{fieldBytes}
+use Rattle.number.specs.Fields.{fieldBytes}
 use Rattle.signing.proofs.FieldLaws.{field-starts, field-step, field-ends}
 use Rattle.signing.proofs.blocks.put_field.Statement.{statement}
 use Rattle.signing.proofs.blocks.put_field.Tie as tie

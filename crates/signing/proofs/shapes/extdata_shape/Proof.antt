@@ -1,6 +1,7 @@
 -- `extdata_shape` meets its contract: by the table's line. Assumes nothing.
 use mathlib.Core.Path.{refl}
-use Rattle.signing.specs.Blocks.{fieldBytes, laidOut}
+use Rattle.number.specs.Fields.{fieldBytes}
+use Rattle.signing.specs.Blocks.{laidOut}
 use borrow.Author.Needs.{needs}
 use Rattle.signing.proofs.shapes.extdata_shape.Statement.{statement}
 use Rattle.signing.proofs.shapes.extdata_shape.Tie as tie

@@ -1,5 +1,6 @@
 -- `walks::searching::find` meets its contract. Assumes nothing.
 use Prim.Native.Nat.{ℕ, _+_, _*_}
+use mathlib.Core.List.{[]}
 use mathlib.Core.Path.{sym, ap, _∙_}
 use native.Mathlib.Omega.{arith}
 use Rattle.number.specs.Fields.{le32}
@@ -58,7 +59,7 @@ same-length-3 c = c .before .before .search-chain .kept .1 .1 .1 .0 ∙ c .befor
 returns-3 : tie.Need-returns-3
 returns-3 c =
     c .before .before .search-chain .ensures
-    ∙ ap (chain (c .before .before .before .before .before .before .before .before .before .before .before .before .before .before .before .before .before .args .s) (versionOf (c .before .before .before .before .before .before .before .before .before .before .before .before .before .before .before .before .before .args .view) (c .before .before .before .before .before .before .before .before .before .before .before .before .before .before .before .before .before .args .image .now) .bytes) (versionOf (c .before .before .before .before .before .before .before .before .before .before .before .before .before .before .before .before .before .args .view) (c .before .before .before .before .before .before .before .before .before .before .before .before .before .before .before .before .before .args .image .now) .verified) (c .before .before .before .before .before .before .before .before .before .before .before .before .before .before .before .before .before .args .parent) (c .before .before .before .before .before .before .before .before .before .before .before .before .before .before .before .before .before .args .name .now)) (c .before .before .before .word-at .ensures ∙ ap (le32 (versionOf (c .before .before .before .before .before .before .before .before .before .before .before .before .before .before .before .before .before .args .view) (c .before .before .before .before .before .before .before .before .before .before .before .before .before .before .before .before .before .args .image .now) .bytes)) (sym (read-place _ _ _ _ _ (sym (c .before .before .before .before .before .before .before .before .before .before .read-at .ensures .0) ∙ c .before .before .before .before .before .before .word2 .given .1))))
+    ∙ ap (λ (f : ℕ). chain (c .before .before .before .before .before .before .before .before .before .before .before .before .before .before .before .before .before .args .s) (versionOf (c .before .before .before .before .before .before .before .before .before .before .before .before .before .before .before .before .before .args .view) (c .before .before .before .before .before .before .before .before .before .before .before .before .before .before .before .before .before .args .image .now) .bytes) (versionOf (c .before .before .before .before .before .before .before .before .before .before .before .before .before .before .before .before .before .args .view) (c .before .before .before .before .before .before .before .before .before .before .before .before .before .before .before .before .before .args .image .now) .verified) (c .before .before .before .before .before .before .before .before .before .before .before .before .before .before .before .before .before .args .parent) (c .before .before .before .before .before .before .before .before .before .before .before .before .before .before .before .before .before .args .name .now) f []) (c .before .before .before .word-at .ensures ∙ ap (le32 (versionOf (c .before .before .before .before .before .before .before .before .before .before .before .before .before .before .before .before .before .args .view) (c .before .before .before .before .before .before .before .before .before .before .before .before .before .before .before .before .before .args .image .now) .bytes)) (sym (read-place _ _ _ _ _ (sym (c .before .before .before .before .before .before .before .before .before .before .read-at .ensures .0) ∙ c .before .before .before .before .before .before .word2 .given .1))))
     ∙ found-is (c .before .before .before .before .before .before .before .before .before .before .before .before .before .before .before .before .before .args .s) (versionOf (c .before .before .before .before .before .before .before .before .before .before .before .before .before .before .before .before .before .args .view) (c .before .before .before .before .before .before .before .before .before .before .before .before .before .before .before .before .before .args .image .now) .bytes) (versionOf (c .before .before .before .before .before .before .before .before .before .before .before .before .before .before .before .before .before .args .view) (c .before .before .before .before .before .before .before .before .before .before .before .before .before .before .before .before .before .args .image .now) .verified) (c .before .before .before .before .before .before .before .before .before .before .before .before .before .before .before .before .before .args .parent) (c .before .before .before .before .before .before .before .before .before .before .before .before .before .before .before .before .before .args .name .now) _ _ _ (c .before .before .before .before .before .before .before .before .before .before .before .before .before .bucket-of .ensures .0) (c .before .before .before .before .before .before .before .before .before .before .read-at .ensures .0 ∙ ap (λ (l : ℕ). readAt (versionOf (c .before .before .before .before .before .before .before .before .before .before .before .before .before .before .before .before .before .args .view) (c .before .before .before .before .before .before .before .before .before .before .before .before .before .before .before .before .before .args .image .now) .verified) l (c .before .before .before .before .before .before .before .before .before .before .before .before .before .before .before .before .before .args .s .hash + 4 * c .before .before .before .before .before .before .before .before .before .before .before .before .before .bucket-of .result) 4) (sym (c .before .before .before .before .before .before .before .before .before .before .before .before .before .before .before .before .before .pre .1 .logs))) (c .before .before .before .before .before .before .word2 .given .1)
 
 pub find-spec : {M : Type 1} → statement M

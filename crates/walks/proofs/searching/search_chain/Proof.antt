@@ -1,11 +1,13 @@
 -- `walks::searching::search_chain` meets its contract. Assumes nothing.
 use Prim.Native.Nat.{_+_, _≤_}
+use mathlib.Core.List.{[]}
 use mathlib.Core.Path.{_≡_, refl, sym, _∙_}
 use lib.ListN.{length}
 use native.Mathlib.Nat.{pos-of-ne-zero}
 use native.Mathlib.Omega.{arith}
 use Rattle.views.specs.Versions.{versionOf}
-use Rattle.names.specs.Searching.{chain, counted}
+use Rattle.names.specs.Searching.{chain}
+use Rattle.names.specs.Walks.{counted}
 use Rattle.names.proofs.ChainLaws.{counted-start, counted-last, counted-next, counted-none, max-small}
 use Rattle.entries.specs.Known.{Knows}
 use Rattle.walks.proofs.searching.search_chain.Statement.{statement}
@@ -15,7 +17,7 @@ use Rattle.ivfc.proofs.ViewLaws.{size4-small}
 abbrev Inv-loop : tie.InvT-loop
 Inv-loop s view image known₀ first parent name f₀ steps₀ known f steps =
     (length known ≡ length known₀) × (steps ≤ s .files .max + 1) × Knows view image known
-    × (chain s (versionOf view image .bytes) (versionOf view image .verified) parent name first ≡ counted s (versionOf view image .bytes) (versionOf view image .verified) parent name steps f)
+    × (chain s (versionOf view image .bytes) (versionOf view image .verified) parent name first [] ≡ counted s (versionOf view image .bytes) (versionOf view image .verified) parent name steps f)
 
 abbrev μ-loop : tie.MeasureT-loop
 μ-loop s view image known₀ first parent name f₀ steps₀ known f steps = steps
