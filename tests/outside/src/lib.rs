@@ -3,6 +3,8 @@
 
 #[cfg(feature = "gateway")]
 pub mod boundary;
+pub mod check;
+pub mod command;
 pub mod description;
 pub mod generate;
 pub mod history;
@@ -12,6 +14,7 @@ pub mod rules;
 pub mod stores;
 pub mod subject;
 pub mod trial;
+pub mod words;
 
 // Under this name since bench/, which is built without cargo, takes the same file in by its path.
 #[cfg(feature = "gateway")]

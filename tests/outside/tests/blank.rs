@@ -18,7 +18,9 @@ fn blank(kind: Kind, blocks: u64) -> Vec<u8> {
     image
 }
 
-/// A few lines of Python with its own SHA-256 made these.
+/// Neither the proved library nor this implementation made these digests: they come from programs in Python, with the
+/// SHA-256 of its hashlib and each with its own reading of the request. One of the programs is tests/blank_images.py at
+/// the repository's root; its `sha256(blank(kind, blocks))` gives them again, where kind 0 is DISA and 1 is DIFF.
 #[test]
 fn digests_of_whole_images() {
     let digests = [

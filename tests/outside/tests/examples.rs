@@ -1,5 +1,6 @@
-//! The paper's examples P6 to P12 and the ones without a number, on images built for them. (P1 to P5 are next to the
-//! bits, in model/dpfs.rs.)
+//! Said by hand, on images built for it: the paper's examples P6 to P12 and the ones without a number; limits and the order
+//! of refusals that the requests add; and whole sessions, from begin to commit and to a step back. (P1 to P5 are next to
+//! the bits, in src/rules/dpfs.rs.) The samples in the repository are compared here too.
 
 use outside::generate::contents;
 use outside::generate::random::Random;
@@ -18,7 +19,7 @@ use outside::rules::header::{Header, Kind, PartitionPlace, HEADER};
 use outside::rules::opening::{open, open_signed, Opened, Partition};
 use outside::rules::protected::free_bytes;
 use outside::rules::refusal::Refusal;
-use outside::rules::session::Session;
+use outside::rules::session::{header_bytes, HeaderBytes, Session};
 use outside::rules::sha256::sha256;
 use outside::rules::signing::{signature, Signer};
 
@@ -427,6 +428,44 @@ fn a_step_back() {
     revert_signed(&mut image, &mut other, &key, signer).expect("the last commit");
     assert_eq!(image[16..], before[16..]);
     assert_eq!(number(open_signed(&image, &key, signer)), 0);
+}
+
+/// A session value that no commit left remembers a header of the other kind with the same tables. The signer must fit the
+/// header that comes back, and the image is one of that kind then.
+#[test]
+fn a_step_back_to_the_other_kind() {
+    let Sample { mut image, versions, .. } = diff_with_data(300, 6, 5);
+    let diff = header_bytes(&image);
+    let disa = as_disa(&diff);
+    let (key, of_disa, of_diff) = ([3; 16], Signer::Gamecard, Signer::Quota { extdata: 9 });
+    for (former, latter, fits, fits_not) in [(disa, diff, of_disa, of_diff), (diff, disa, of_diff, of_disa)] {
+        let remembered = Session::Idle { former, latter };
+        let before = image.clone();
+        let mut session = remembered.clone();
+        assert_eq!(revert_signed(&mut image, &mut session, &key, fits_not), Err(Refusal::WrongSigner));
+        assert_eq!((&image, &session), (&before, &remembered));
+        revert_signed(&mut image, &mut session, &key, fits).expect("it opens under either header");
+        assert_eq!((header_bytes(&image), session), (former, Session::FRESH));
+        assert_eq!(number(open_signed(&image, &key, fits)), 0);
+        assert_eq!(number(open_signed(&image, &key, fits_not)), 15);
+        let mut buffer = [0; 300];
+        read_committed(&image, 0, 0, &mut buffer).expect("verified");
+        assert_eq!(buffer[..], versions[0].bytes);
+    }
+}
+
+/// A DISA's header for what a DIFF's says, field by field from the paper's table.
+fn as_disa(diff: &HeaderBytes) -> HeaderBytes {
+    let mut disa = [0; 0x100];
+    disa[..8].copy_from_slice(b"DISA\x00\x00\x04\x00");
+    disa[0x08] = 1;
+    disa[0x10..0x28].copy_from_slice(&diff[0x08..0x20]);
+    // A's descriptor is the whole table.
+    disa[0x30..0x38].copy_from_slice(&diff[0x18..0x20]);
+    disa[0x48..0x58].copy_from_slice(&diff[0x20..0x30]);
+    disa[0x68] = diff[0x30];
+    disa[0x6C..0x8C].copy_from_slice(&diff[0x34..0x54]);
+    disa
 }
 
 /// The signature lands with the header, in one unit: with only one of the two the image is no longer signed.

@@ -24,10 +24,12 @@ use outside::subject::blank::Blanks;
 use outside::subject::names::Names;
 use outside::subject::{Rules, Subject};
 use outside::trial::call::Call;
+use outside::trial::fixed::run_fixed_cases;
 use outside::trial::properties::{finish_write, rebuilt_extent, touched_on_each_level, Finished};
-use outside::trial::tally::{Tally, NUMBERS};
-use outside::trial::{run_case, run_fixed_cases};
+use outside::trial::run_case;
+use outside::trial::tally::{OtherKind, Tally, NUMBERS};
 
+/// These cases are among those that a check makes by default.
 #[test]
 fn the_model_agrees_and_every_answer_occurs() {
     let mut tally = Tally::default();
@@ -68,6 +70,13 @@ fn the_model_agrees_and_every_answer_occurs() {
         }
     }
     assert!(tally.count("abandon", 0) > 0 && tally.count("abandon", 13) > 0);
+    every_event_occurs(&tally);
+}
+
+/// How often each of the rarest events must have come up.
+const A_FEW: u64 = 3;
+
+fn every_event_occurs(tally: &Tally) {
     assert!(tally.power_failures > 0 && tally.writes_upon_writes > 0 && tally.reverted > 0);
     assert!(tally.later_entries > 0, "no write reached a later entry of a master hash");
     assert!(tally.rows > 0, "no call met eight blocks in a row");
@@ -76,6 +85,9 @@ fn the_model_agrees_and_every_answer_occurs() {
     assert!(tally.rebuilt_across > 0 && tally.rebuilt_short > 0);
     assert!(tally.in_place.iter().all(|count| *count > 0), "blocks written in place: {:?}", tally.in_place);
     assert!(tally.zero_digests.iter().all(|count| *count > 0), "digests of zeros: {:?}", tally.zero_digests);
+    let OtherKind { plain, signed, refused } = &tally.other_kind;
+    let steps_back = [plain, signed, refused];
+    assert!(steps_back.into_iter().flatten().all(|count| *count >= A_FEW), "{:?}", tally.other_kind);
 }
 
 /// Names the ways to go wrong, and lists them all.
@@ -181,6 +193,8 @@ faults! {
     RevertSignsPresent,
     RevertForgetsSignature,
     RevertJudgesSignerFirst,
+    RevertRefusesOtherKind,
+    RevertTakesPresentKind,
 }
 
 /// The model with one fault.
@@ -444,17 +458,21 @@ impl Subject for Faulty {
 
     fn revert_signed(&self, image: &mut [u8], session: &mut SessionBytes, key: &Key, signer: &SignerNumbers) -> u64 {
         let before = image.to_vec();
+        let session_before = *session;
         let right = |image: &mut [u8], session: &mut SessionBytes| Rules.revert_signed(image, session, key, signer);
         let answer = self.faulty_revert(image, session, right);
-        match (self.0, answer) {
-            (Fault::RevertSignsPresent, 0) => {
-                let present = signature(&before, key, Signer::from_numbers(*signer)).expect("a signer that fits");
-                image[..16].copy_from_slice(&present);
-            }
-            (Fault::RevertForgetsSignature, 0) => image[..16].copy_from_slice(&before[..16]),
-            (Fault::RevertJudgesSignerFirst, 21) if signature(&before, key, Signer::from_numbers(*signer)).is_err() => {
+        let by_present = signature(&before, key, Signer::from_numbers(*signer));
+        match (self.0, answer, by_present) {
+            (Fault::RevertSignsPresent, 0, Ok(present)) => image[..16].copy_from_slice(&present),
+            (Fault::RevertForgetsSignature, 0, _) => image[..16].copy_from_slice(&before[..16]),
+            (Fault::RevertJudgesSignerFirst, 21, Err(_)) => return 15,
+            // 15 by the kind that is there, not by the one that comes back: it says no too often, or yes.
+            (Fault::RevertRefusesOtherKind, 0, Err(_)) => {
+                image.copy_from_slice(&before);
+                *session = session_before;
                 return 15;
             }
+            (Fault::RevertTakesPresentKind, 15, Ok(_)) => return Rules.revert(image, session),
             _ => {}
         }
         answer

@@ -10,7 +10,7 @@ use crate::rules::descriptor::{
     Level, DIFI_OPENING, DPFS_LEVELS, DPFS_OPENING, ENTRY, IVFC_LEVELS, IVFC_OPENING, SELECTOR,
 };
 use crate::rules::extent::Extent;
-use crate::rules::header::{Kind, PartitionPlace, DIFF_OPENING, DISA_OPENING, HEADER};
+use crate::rules::header::{Header, Kind, PartitionPlace, DIFF_OPENING, DISA_OPENING, HEADER};
 use crate::rules::opening::{Opened, Partition};
 use crate::rules::sha256::sha256;
 
@@ -33,7 +33,7 @@ pub fn build(random: &mut Random, wanted: &Wanted, opened: Opened, length: usize
     if random.chance(30) {
         put_staged_table(random, &mut image, &opened, table);
     }
-    put_header(&mut image, &opened);
+    put_header(&mut image[HEADER..], &opened.header);
     put_table_hash(&mut image, &opened);
     Sample { image, opened, versions, hash_verified }
 }
@@ -125,10 +125,8 @@ fn put_staged_table(random: &mut Random, image: &mut [u8], opened: &Opened, mut 
     put(image, opened.header.inactive_table().offset as usize, &table);
 }
 
-/// Where a DISA has no B, its fields are zero.
-fn put_header(image: &mut [u8], opened: &Opened) {
-    let header = &opened.header;
-    let bytes = &mut image[HEADER..];
+/// Writes the fields of a header, but for the table's hash; where a DISA has no B, its fields are zero.
+pub fn put_header(bytes: &mut [u8], header: &Header) {
     let table_size = header.primary.size as u64;
     let a = header.partitions[0];
     match header.kind {

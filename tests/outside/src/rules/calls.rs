@@ -111,7 +111,9 @@ pub fn revert(image: &mut [u8], session: &mut Session) -> Result<(), Refusal> {
     Ok(())
 }
 
-/// The same, with the signature of that header.
+/// The same, with the signature of that header, by whose kind 15 is judged too. W13 has this form "for the former header"
+/// and does not say whose kind counts where the two headers differ in it, which only a session value that no commit left
+/// can bring about. But what is signed is W1's block of the former header, and 15 is W1's refusal to make that block.
 pub fn revert_signed(image: &mut [u8], session: &mut Session, key: &Key, signer: Signer) -> Result<(), Refusal> {
     let front = former_front(image, session)?;
     let signature = signature(&front, key, signer)?;

@@ -74,7 +74,7 @@ pub fn run(subject: Option<&dyn Subject>, tally: &mut Tally) -> Result<(), Strin
         for target in 0..sample.opened.partitions.len() {
             for level in 0..=4 {
                 run_level(&sample, target, level, subject, tally)
-                    .map_err(|complaint| format!("faults, seed {seed}, partition {target}: {complaint}"))?;
+                    .map_err(|complaint| format!("seed {seed}, partition {target}: {complaint}"))?;
             }
         }
     }

@@ -21,7 +21,7 @@ pub fn run(subject: Option<&dyn Subject>, tally: &mut Tally) -> Result<(), Strin
         let calls = first_writes(random, partition, data.0, 1 << data.1);
         List::new(random, sample, subject, tally)
             .run_sessions(calls.into_iter().map(|call| (0, call)).collect())
-            .map_err(|complaint| format!("fresh ground, seed {seed}: {complaint}"))?;
+            .map_err(|complaint| format!("seed {seed}: {complaint}"))?;
     }
     Ok(())
 }

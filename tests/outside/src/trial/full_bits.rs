@@ -15,8 +15,7 @@ const CALLS: u64 = 30;
 
 pub fn run(subject: Option<&dyn Subject>, tally: &mut Tally) -> Result<(), String> {
     for seed in 0..CASES {
-        run_case(&mut Random::new(seed), subject, tally)
-            .map_err(|complaint| format!("full bits, seed {seed}: {complaint}"))?;
+        run_case(&mut Random::new(seed), subject, tally).map_err(|complaint| format!("seed {seed}: {complaint}"))?;
     }
     Ok(())
 }

@@ -3,6 +3,7 @@
 
 use super::call::{Call, Outcome, UNTOUCHED_DESCRIPTION, WRITE};
 use super::faults::{check_row, list_of};
+use super::forged::forge_session;
 use super::names::{begins_like_a_save, check_names, choose_small_write, NamesCall};
 use super::power::scramble;
 use super::properties::{
@@ -13,22 +14,21 @@ use super::rows::touches_row;
 use super::sample_of;
 use super::signatures::signed_answer;
 use super::signing::{check_signing, expected_refusal, kind_of};
-use super::tally::Tally;
+use super::tally::{OtherKind, Tally};
 use crate::description::{describe, name_at, Description};
 use crate::generate::random::Random;
-use crate::generate::signing::SigningKey;
+use crate::generate::signing::{choose_signer, SigningKey};
 use crate::generate::Sample;
 use crate::model::{Model, Version};
 use crate::rules::calls::touched_blocks;
 use crate::rules::dpfs::View;
 use crate::rules::extent::Extent;
 use crate::rules::faults::FaultRecord;
-use crate::rules::header::{HEADER, HEADER_LENGTH};
+use crate::rules::header::{DIFF_OPENING, HEADER, HEADER_LENGTH};
 use crate::rules::opening::{open, Opened};
 use crate::rules::protected::free_bytes;
 use crate::rules::refusal::{answer_code, Refusal};
-use crate::rules::session::{header_bytes, HeaderBytes, Session, SessionBytes, SESSION_LENGTH};
-use crate::rules::sha256::sha256;
+use crate::rules::session::{header_bytes, Session, SessionBytes, SESSION_LENGTH};
 use crate::rules::signing::SIGNATURE_LENGTH;
 use crate::subject::{Rules, Subject};
 
@@ -106,16 +106,37 @@ impl<'a> List<'a> {
             if random.chance(5) {
                 self.sign(random).map_err(|complaint| format!("after the host has signed: {complaint}"))?;
             }
-            let call = self.choose_call(random);
             let forged = random.chance(15);
-            let mut session = if forged { self.forge_session(random) } else { self.session };
+            let (mut session, call) =
+                if forged { self.forge(random) } else { (self.session, self.choose_call(random)) };
             self.try_call(&call, &mut session).map_err(|complaint| format!("{call}: {complaint}"))?;
             if !forged || random.chance(30) {
                 self.kept.push(self.session);
                 self.session = session;
             }
+            self.fit_signing_key(random);
         }
         Ok(())
+    }
+
+    /// A forged session and a call in it. What an idle one remembers shows itself in a step back alone, so half of them
+    /// are tried with one, with signers of both kinds.
+    fn forge(&self, random: &mut Random) -> (SessionBytes, Call) {
+        let session = forge_session(random, &self.image, &self.opened.header, &self.kept);
+        let signing_key = SigningKey { signer: choose_signer(random), ..self.signing_key };
+        let call = match random.below(6) {
+            0 if session[0] == 0 => Call::Revert,
+            1 | 2 if session[0] == 0 => Call::RevertSigned { signing_key },
+            _ => self.choose_call(random),
+        };
+        (session, call)
+    }
+
+    /// The host needs another key where a forged step back has made the image one of the other kind.
+    fn fit_signing_key(&mut self, random: &mut Random) {
+        if kind_of(self.signing_key.signer) != self.opened.header.kind {
+            self.signing_key = SigningKey::choose(random, &self.image);
+        }
     }
 
     /// Any call; where there is a save, often one for its names or a write that changes little of it.
@@ -148,51 +169,13 @@ impl<'a> List<'a> {
         self.models[0].staged.is_some()
     }
 
-    /// A session value that no call has handed out just now.
-    fn forge_session(&self, random: &mut Random) -> SessionBytes {
-        let present = header_bytes(&self.image);
-        let mut session = match random.below(8) {
-            0 => random.bytes(SESSION_LENGTH).try_into().expect("a session's length"),
-            1..=2 if !self.kept.is_empty() => self.kept[random.below(self.kept.len() as u64) as usize],
-            3..=4 => Session::Idle { former: self.forge_former(random), latter: present }.to_bytes(),
-            _ => {
-                let mut session = Session::Begun(present).to_bytes();
-                session[0] = random.between(1, 255) as u8;
-                let noise = random.bytes(HEADER_LENGTH);
-                session[1 + HEADER_LENGTH..].copy_from_slice(&noise);
-                session
-            }
-        };
-        if random.chance(15) {
-            session[random.below(SESSION_LENGTH as u64) as usize] ^= 1 << random.below(8);
-        }
-        session
-    }
-
-    /// A header that no commit was made on: one of the other table as it is, which an image may open under, one with
-    /// other bytes where none is read, the present one, or noise.
-    fn forge_former(&self, random: &mut Random) -> HeaderBytes {
-        let kind = self.opened.header.kind;
-        let mut former = header_bytes(&self.image);
-        match random.below(4) {
-            0 | 1 => {
-                let digest = sha256(self.opened.header.inactive_table().of(&self.image));
-                former[kind.flag_place().0] ^= 1;
-                former[kind.hash_place()..kind.hash_place() + 32].copy_from_slice(&digest);
-            }
-            2 => former[random.between(kind.hash_place() as u64 + 32, HEADER_LENGTH as u64 - 1) as usize] ^= 1,
-            _ if random.chance(50) => {}
-            _ => former = random.bytes(HEADER_LENGTH).try_into().expect("a header's length"),
-        }
-        former
-    }
-
     /// Makes one call and checks everything about it.
     fn try_call(&mut self, call: &Call, session: &mut SessionBytes) -> Result<(), String> {
         let before = self.image.clone();
         let session_before = *session;
         let outcome = call.perform(&Rules, &mut self.image, session);
         self.tally.note(call.name(), outcome.answer);
+        self.note_other_kind(call, &before, &session_before, outcome.answer);
         self.check_subject(call, &before, &session_before, session, &outcome)?;
         self.check_prediction(call, &before, &session_before, &outcome)?;
         check_signing(&before, call, &outcome)?;
@@ -210,6 +193,24 @@ impl<'a> List<'a> {
             require(untouched, || format!("refused with {:#x}, and yet something changed", outcome.answer))?;
         }
         self.check_views()
+    }
+
+    /// Counts a step back to a header of the other kind, accepted or refused by its signer alone: since 15 comes last, the
+    /// image opens under that header.
+    fn note_other_kind(&mut self, call: &Call, before: &[u8], session: &SessionBytes, answer: u64) {
+        let Session::Idle { former, .. } = Session::from_bytes(session) else { return };
+        let opening = &former[..8];
+        if opening == &before[HEADER..HEADER + 8] {
+            return;
+        }
+        let kind = usize::from(opening == DIFF_OPENING);
+        let OtherKind { plain, signed, refused } = &mut self.tally.other_kind;
+        match (call, answer) {
+            (Call::Revert, 0) => plain[kind] += 1,
+            (Call::RevertSigned { .. }, 0) => signed[kind] += 1,
+            (Call::RevertSigned { .. }, 15) => refused[kind] += 1,
+            _ => {}
+        }
     }
 
     /// The subject must give the same answer, image, session and buffers.
@@ -288,7 +289,8 @@ impl<'a> List<'a> {
         last.session == *session && last.after[HEADER..] == image[HEADER..]
     }
 
-    /// The last commit can be taken back. Of any other memory the image tells whether it opens under the former header.
+    /// The last commit can be taken back. Of any other memory the image tells whether it opens under the former header, and
+    /// that header whether the signer fits.
     fn predict_revert(&self, call: &Call, image: &[u8], session: &SessionBytes) -> Option<Prediction> {
         let Session::Idle { former, latter } = Session::from_bytes(session) else {
             return refused(Refusal::WrongSession);

@@ -1,10 +1,13 @@
 //! Random cases: lists of calls on valid images, the same with digests of zeros, damaged images, images with random changes,
-//! signatures, blocks for signing, running digests, blank images, and names inside saves.
+//! signatures, blocks for signing, running digests, blank images, and names inside saves. Trials that are the same in every
+//! check are in `fixed`.
 
 pub mod blank;
 pub mod call;
 mod digest;
 pub mod faults;
+pub mod fixed;
+mod forged;
 mod fresh;
 mod full_bits;
 mod leftovers;
@@ -22,26 +25,24 @@ pub mod term;
 mod zero_digests;
 
 use crate::description::Description;
-use crate::generate::damage::{any_damage, damaged_image, mutate, patient, DAMAGES};
+use crate::generate::damage::{any_damage, damaged_image, mutate, patient};
 use crate::generate::random::Random;
 use crate::generate::shape::Wanted;
 use crate::generate::signing::SigningKey;
 use crate::generate::{valid_image, Sample};
 use crate::model::Version;
 use crate::rules::dpfs::View;
-use crate::rules::header::LONGEST_IMAGE;
 use crate::rules::opening::{open, Opened};
 use crate::rules::session::{Session, SessionBytes, SESSION_LENGTH};
-use crate::subject::names::Names;
 use crate::subject::{Rules, Subject};
 use blank::run_blank_case;
 use call::{Call, Outcome, CALL_KINDS, UNTOUCHED_DESCRIPTION};
-use digest::{run_digest_case, run_long_message};
+use digest::run_digest_case;
 use list::{compare_subject, List};
 use properties::require;
 use saves::run_save_case;
-use signatures::{check_signed_opening, run_signature_cases, signed_answer};
-use signing::{check_signing, run_length_cases, run_signing_case};
+use signatures::signed_answer;
+use signing::{check_signing, run_signing_case};
 use tally::Tally;
 
 /// Runs the case of this seed; the complaint says what went wrong.
@@ -75,44 +76,6 @@ pub fn run_case(seed: u64, subject: Option<&dyn Subject>, tally: &mut Tally) -> 
         93..=97 => run_digest_case(random, subject, tally),
         _ => run_blank_case(random, subject, tally),
     }
-}
-
-/// How often every run tries each damage, so that each of its values comes up.
-const TRIES_OF_EACH_DAMAGE: u64 = 40;
-
-/// Cases that every run must have tried: each damage, levels of bits that are full, faults on every level, first writes on fresh
-/// ground, steps back, digests of zeros, leftovers in the header, the limits of an image's length, each bit of a signature, a long
-/// message, blank images, saves of every form.
-pub fn run_fixed_cases(subject: Option<&dyn Subject>, tally: &mut Tally) -> Result<(), String> {
-    let random = &mut Random::new(0);
-    for damage in DAMAGES {
-        for _ in 0..TRIES_OF_EACH_DAMAGE {
-            let image = damaged_image(random, damage).image;
-            refused_image(random, image, damage.number, subject, tally)
-                .map_err(|complaint| format!("{}: {complaint}", damage.name))?;
-        }
-    }
-    full_bits::run(subject, tally)?;
-    faults::run(subject, tally)?;
-    fresh::run(subject, tally)?;
-    reverts::run(subject, tally)?;
-    zero_digests::run(subject, tally)?;
-    leftovers::run(subject, tally).map_err(|complaint| format!("leftovers: {complaint}"))?;
-    let mut image = valid_image(&mut Random::new(0), &Wanted::default()).image;
-    let signing_key = SigningKey::choose(random, &image);
-    signing_key.sign(&mut image);
-    for (length, number) in [(LONGEST_IMAGE, 0), (LONGEST_IMAGE + 1, 1)] {
-        image.resize(length, 0x55);
-        check_opening(number, subject, |library, description| library.open(&image, description))
-            .and_then(|()| check_signed_opening(&image, &signing_key, number, subject))
-            .map_err(|complaint| format!("length {length:#x}: {complaint}"))?;
-    }
-    run_length_cases(subject, tally)?;
-    run_signature_cases(subject).map_err(|complaint| format!("signatures: {complaint}"))?;
-    run_long_message(subject, tally).map_err(|complaint| format!("a million letters: {complaint}"))?;
-    blank::run(subject, tally).map_err(|complaint| format!("blank images: {complaint}"))?;
-    let names = subject.map(|subject| subject as &dyn Names);
-    saves::run(names, tally).map_err(|complaint| format!("saves: {complaint}"))
 }
 
 /// A way of opening answers this number, and the subject's does the same.

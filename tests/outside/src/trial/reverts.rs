@@ -23,7 +23,7 @@ pub fn run(subject: Option<&dyn Subject>, tally: &mut Tally) -> Result<(), Strin
         let calls = steps(random, &signing_key, partition, size);
         List::new(random, sample, subject, tally)
             .run_sessions(calls)
-            .map_err(|complaint| format!("steps back, seed {seed}: {complaint}"))?;
+            .map_err(|complaint| format!("seed {seed}: {complaint}"))?;
     }
     Ok(())
 }

@@ -53,7 +53,20 @@ pub struct Tally {
     pub in_place: [u64; 2],
     /// Writes that met a digest of zeros, by the level of the block that has it.
     pub zero_digests: [u64; 4],
+    pub other_kind: OtherKind,
     pub terms: Terms,
+}
+
+/// Steps back to a header of the other kind under which the image opens, which a forged session remembers; by the kind of
+/// that header, DISA or DIFF.
+#[derive(Clone, Debug, Default)]
+pub struct OtherKind {
+    /// Accepted, without a signature.
+    pub plain: [u64; 2],
+    /// Accepted, with a signer of the kind that comes back.
+    pub signed: [u64; 2],
+    /// Refused with 15, with a signer of the kind that is there.
+    pub refused: [u64; 2],
 }
 
 /// What the runs of many sessions have met.
@@ -100,17 +113,34 @@ fn columns(answers: &[[u64; NUMBERS]]) -> Vec<usize> {
 
 impl std::fmt::Display for Tally {
     fn fmt(&self, out: &mut std::fmt::Formatter) -> std::fmt::Result {
-        write!(out, "{:15}", "answers")?;
+        self.write_answers(out)?;
+        self.write_events(out)?;
+        let OtherKind { plain, signed, refused } = &self.other_kind;
+        write!(
+            out,
+            "\nsteps back to a header of the other kind, a DISA's and a DIFF's: plain {plain:?}, signed {signed:?}, refused with 15 {refused:?}"
+        )?;
+        let Terms { commits, reverts, cuts, cut_before_landing, cut_after_landing, zero_digests } = self.terms;
+        write!(
+            out,
+            "\nin runs of many sessions: commits {commits}, reverts {reverts}, digests of zeros {zero_digests}, power failures {cuts}, before a header landed {cut_before_landing}, right after one {cut_after_landing}"
+        )
+    }
+}
+
+impl Tally {
+    fn write_answers(&self, out: &mut std::fmt::Formatter) -> std::fmt::Result {
         let columns = columns(&self.answers);
-        for number in &columns {
-            write!(out, "{number:>7}")?;
-        }
+        let line = |row: &[u64]| columns.iter().map(|number| format!("{:>7}", row[*number])).collect::<String>();
+        let numbers: Vec<u64> = (0..NUMBERS as u64).collect();
+        write!(out, "{:15}{}", "answers", line(&numbers))?;
         for (name, row) in CALLS.iter().zip(&self.answers) {
-            write!(out, "\n{name:15}")?;
-            for number in &columns {
-                write!(out, "{:>7}", row[*number])?;
-            }
+            write!(out, "\n{name:15}{}", line(row))?;
         }
+        Ok(())
+    }
+
+    fn write_events(&self, out: &mut std::fmt::Formatter) -> std::fmt::Result {
         write!(
             out,
             "\npower failures {}, writes upon moved blocks {}, writes to later master entries {}, calls over rows of eight blocks {}",
@@ -126,11 +156,6 @@ impl std::fmt::Display for Tally {
             out,
             "\nblocks written in place that are verified before the commit {verified}, not verified {unverified}; commits reverted {}",
             self.reverted
-        )?;
-        let Terms { commits, reverts, cuts, cut_before_landing, cut_after_landing, zero_digests } = self.terms;
-        write!(
-            out,
-            "\nin runs of many sessions: commits {commits}, reverts {reverts}, digests of zeros {zero_digests}, power failures {cuts}, before a header landed {cut_before_landing}, right after one {cut_after_landing}"
         )
     }
 }

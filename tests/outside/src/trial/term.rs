@@ -190,6 +190,7 @@ impl<'a> Run<'a> {
     /// What a call must answer, as far as the book says it.
     fn expected_answer(&self, call: &Call) -> Option<u64> {
         let refused = |refusal: Refusal| Some(answer_code(Err(refusal)));
+        // A revert's too: no session is forged here, so the header that comes back is of the present kind.
         let fits = |signing_key: &SigningKey| kind_of(signing_key.signer) == self.opened.header.kind;
         match call {
             Call::Begin | Call::Revert | Call::RevertSigned { .. } if self.begun() => refused(Refusal::WrongSession),

@@ -14,8 +14,7 @@ const CASES: u64 = 60;
 /// As many lists as it takes to meet a digest of zeros on every level.
 pub fn run(subject: Option<&dyn Subject>, tally: &mut Tally) -> Result<(), String> {
     for seed in 0..CASES {
-        run_case(&mut Random::new(seed), subject, tally)
-            .map_err(|complaint| format!("digests of zeros, seed {seed}: {complaint}"))?;
+        run_case(&mut Random::new(seed), subject, tally).map_err(|complaint| format!("seed {seed}: {complaint}"))?;
     }
     Ok(())
 }
