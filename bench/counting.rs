@@ -6,8 +6,8 @@
 //! for its new entry, each touched block as it becomes, and as it was if it is covered only in part; for a commit the
 //! staged table too. A library that remembers what it has judged in the call needs no more. Messages count whole, even
 //! if two begin alike, and are told apart by their digests: the data is such that no two blocks are equal. What (a)
-//! hashes is counted with every repetition. SHA-256's own padding is not counted, and what the proved library hashes is
-//! not counted at all: it cannot be seen from outside.
+//! hashes is counted with every repetition. SHA-256's own padding is not counted. What the proved library hashes cannot
+//! be seen from here: bench/hashes counts it, by a debugger.
 
 use std::cell::RefCell;
 use std::collections::HashSet;

@@ -69,6 +69,10 @@ const FAULTS: &str = "faults";
 fn main() -> ExitCode {
     let words: Vec<String> = std::env::args().skip(1).collect();
     let wanted = |name: &str| words.is_empty() || words.iter().any(|word| name.contains(word.as_str()));
+    if !ROWS.iter().map(|(name, _)| *name).chain([GROWTH, FAULTS]).any(wanted) {
+        eprintln!("bench: no row has one of these words in its name");
+        return ExitCode::FAILURE;
+    }
     let mut rows = Vec::new();
     let world = World::new();
     print_head();

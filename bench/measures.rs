@@ -213,13 +213,13 @@ impl World {
             best_turns([&mut || per_call(1, &mut make), &mut || per_call(1, &mut clear), &mut || {
                 per_call(1, || LEVELS.iter().for_each(|&(size, block)| self.hash_level(size, block)))
             }]);
-        let must_hash = BLOCK + LEVELS.iter().map(|&(size, block)| size.min(block)).sum::<usize>() + TABLE;
+        let must_hash = BLOCK + LEVELS.iter().map(|&(_, block)| block).sum::<usize>() + TABLE;
         Some(Row { time, time_of_a: None, time_of_b: clearing + hashing, asked: 0, must_hash, a_hashes: None })
     }
 
-    /// (b)'s turn at a hash level: at as many bytes, cut into its blocks.
+    /// (b)'s turn at a hash level: at its blocks, the last one with its padding.
     fn hash_level(&self, size: usize, block: usize) {
-        self.data[..size].chunks(block).for_each(|bytes| digest_once(self.plain, bytes));
+        self.data[..size.next_multiple_of(block)].chunks(block).for_each(|bytes| digest_once(self.plain, bytes));
     }
 
     /// A call for which a session is begun each time, untimed.
