@@ -1,4 +1,5 @@
 // The sizes and places of a blank image for n blocks.
+use super::PARTITION;
 ghost use mathlib.Core.Path.{_≡_};
 ghost use Prim.Native.Nat.{_+_, _*_, _<_, _≤_, _^_};
 ghost use Rattle.blank.specs.Sizes.{blocksAllowed, up, next, bitsFor, h1, h2, h3, place4, size1, size2, size3, place2, place3, partitionSize, imageSize};
@@ -112,5 +113,5 @@ pub fn image_size(n: u64) -> u64
     requires { ⌜ n ≤ 4096 ⌝ }
     ensures { λ r. ⌜ (r ≡ imageSize n) × (r ≤ 0x2047000) ⌝ }
 {
-    0x1000 + partition_size(n)
+    PARTITION + partition_size(n)
 }

@@ -113,7 +113,7 @@ fn take_input(buffer: &mut [u8]) -> Input {
 }
 
 fn main() {
-    let mut buffer = [0u8; 65_537];
+    let mut buffer = [0u8; LONGEST_INPUT + 1];
     let input = take_input(&mut buffer);
     let Input::Bytes(n) = input else {
         print(b"cannot read\n");

@@ -30,7 +30,7 @@ ghost use Rattle.faults.specs.Marking.{blocksBefore, mostBlocks, Free, S
 // hashes for 64 each.
 const MARKS: usize = 0x20010;
 
-// The view that is judged.
+// The view that is judged: the list is that of the committed one.
 pub fn view_of(c: Container, q: u64) -> View
     requires { ⌜ PlacesFit c q ⌝ }
     ensures { λ r. ⌜ r ≡ committedView c q ⌝ }

@@ -15,8 +15,8 @@ const LONGEST: usize = 0x20000;
 const PRIME: u64 = 4_294_967_291;
 
 // Byte y of the half is 7 y + y / 256, modulo 256.
-fn ruled() -> [u8; 131072] {
-    let mut half = [0u8; 131072];
+fn ruled() -> [u8; LONGEST] {
+    let mut half = [0u8; LONGEST];
     let mut y = 0;
     while y < LONGEST {
         half[y] = ((y * 7 + y / 256) % 256) as u8;

@@ -5,8 +5,10 @@ use super::Ivfc;
 use super::JudgedPartition;
 use super::Partition;
 use super::Refusal;
+use super::SELECTOR;
 use super::headers::range_at;
 use super::magic::opens_with;
+use limits::ENTRY_SIZE;
 use limits::level_allowed;
 use limits::log_at;
 use limits::master_allowed;
@@ -42,7 +44,8 @@ const LEAST_BITS_LOG: u64 = 2;
 
 const WORD_SIZE: u64 = 4;
 
-const ENTRY_SIZE: u64 = 32;
+// A size below this has fewer than 2^64 bits.
+const COUNTABLE: u64 = 0x2000_0000_0000_0000;
 
 // Offset, size and logarithm of a level.
 fn level_at(s: &[u8], at: usize) -> Level
@@ -73,7 +76,7 @@ fn read_difi(d: &[u8]) -> Difi
         dpfs: range_at(d, 0x18),
         master: range_at(d, 0x28),
         external,
-        selector: byte(d, 0x39),
+        selector: byte(d, SELECTOR),
         outside: field8_if(external, d, 0x3C),
     }
 }
@@ -233,7 +236,7 @@ fn enough_bits(next: Level, size: u64) -> bool
     ensures { λ r. ⌜ r ≡ enoughBits next size ⌝ }
 {
     let n = block_count(next);
-    if size < 0x2000_0000_0000_0000 {
+    if size < COUNTABLE {
         n <= 8 * size
     } else {
         true

@@ -7,6 +7,9 @@ pub const HEADER: usize = 0x100;
 
 pub const FRONT: usize = 0x200;
 
+// Where the selector stands in a descriptor.
+pub const SELECTOR: usize = 0x39;
+
 mod descriptors;
 pub mod headers;
 pub mod magic;

@@ -12,7 +12,7 @@ const LONGEST_IMAGE: u64 = 0x400_0000;
 
 const TABLE_LIMIT: u64 = 0x2000;
 
-const ENTRY_SIZE: u64 = 32;
+pub const ENTRY_SIZE: u64 = 32;
 
 const MOST_ENTRIES: u64 = 64;
 

@@ -5,6 +5,7 @@ ghost use Rattle.names.specs.Laws.{NameLaws};
 
 pub mod hashing;
 pub mod header;
+pub mod places;
 pub mod records;
 
 // An entry table: where it starts in level 4, the size of an entry, entry 0's current count, and the header's maximum of entries.

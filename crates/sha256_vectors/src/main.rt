@@ -31,8 +31,8 @@ fn print_named(name: &[u8], number: usize, digest: [u8; 32]) {
 }
 
 // The message of the rule: byte i is 7 i + i / 256, modulo 256.
-fn ruled() -> [u8; 6400] {
-    let mut message = [0u8; 6400];
+fn ruled() -> [u8; LENGTH] {
+    let mut message = [0u8; LENGTH];
     let mut i = 0;
     while i < LENGTH {
         message[i] = ((i * 7 + i / 256) % 256) as u8;

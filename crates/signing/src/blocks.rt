@@ -1,7 +1,6 @@
 // Building a block: its letters, its fields one after the other, then its tail.
 use super::Block;
 use super::Field;
-use super::Shape;
 use super::Signer;
 use super::shapes::shape_of;
 use number::runs::copy_into;

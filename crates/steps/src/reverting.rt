@@ -1,4 +1,6 @@
 // Whether an image may go back to the header before its last commit.
+use layout::FRONT;
+use layout::HEADER;
 use layout::Opened;
 use layout::opening::open_under;
 use number::runs::same_bytes;
@@ -22,7 +24,7 @@ pub fn is_revertible(image: &[u8], former: [u8; 256], later: [u8; 256]) -> bool
     requires { ⌜ 0x200 ≤ length (now image) ⌝ }
     ensures { λ r. ⌜ r ≡ revertible (now (image .entry)) former later ⌝ }
 {
-    if !same_bytes(&image[0x100..0x200], &later) {
+    if !same_bytes(&image[HEADER..FRONT], &later) {
         return false;
     }
     is_valid(open_under(image, &former))

@@ -20,7 +20,7 @@ ghost use Rattle.steps.specs.Rules.{HoldsMarks};
 ghost use Rattle.steps.specs.Sessions.{selectorFlipped, inMaster, allBelow, tableStaged, current};
 
 // Where the selector stands in a descriptor.
-pub const SELECTOR: u64 = 0x39;
+pub const SELECTOR: u64 = layout::SELECTOR as u64;
 
 // The places of a table from `start` to `end` have the same bytes in both.
 fn run_same(active: &[u8], inactive: &[u8], start: u64, end: u64) -> bool

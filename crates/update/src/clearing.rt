@@ -29,7 +29,7 @@ fn put_zeros(space: Space, view: View, image: &mut [u8], i: u64, x: u64, n: u64)
     requires { ⌜ (StagedIn space view (now image)) × (i ≤ 4) × (x + n ≤ levelOf view i .size) ⌝ }
     ensures { λ _. ⌜ now (image .exit) ≡ putLevel view i x (replicate n 0) (now (image .entry)) ⌝ }
 {
-    let zeros = [0u8; 64];
+    let zeros = [0u8; ZEROS as usize];
     let mut done = 0;
     while done < n {
         let piece = lesser(ZEROS, n - done);

@@ -18,7 +18,7 @@ fn zero_among(view: View, image: &[u8], i: u64, first: u64, last: u64) -> bool
     requires { ⌜ (ViewRules view (length (now image))) × (i < 4) × (first ≤ last) × (last < blocks (levelOf view (suc i))) ⌝ }
     ensures { λ r. ⌜ r ≡ zeroAmong (contentOf view (now (image .entry)) i) first (suc last - first) ⌝ }
 {
-    let mut entry = [0u8; 32];
+    let mut entry = [0u8; ENTRY as usize];
     let mut b = first;
     while b <= last {
         gather(view, image, i, ENTRY * b, &mut entry);

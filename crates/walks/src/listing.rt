@@ -4,6 +4,9 @@ use entries::meeting::meet;
 use ivfc::View;
 use names::Save;
 use names::Walked;
+use names::places::FIRST_FILE;
+use names::places::FIRST_FOLDER;
+use names::places::NEXT_SIBLING;
 ghost use mathlib.Core.Path.{_≡_};
 ghost use mathlib.Core.List.{List};
 ghost use Prim.Native.Nat.{ℕ};
@@ -16,6 +19,11 @@ ghost use Rattle.entries.specs.Known.{Knows, Legible};
 
 // The deepest folder is so many levels below the root.
 const DEEPEST: u64 = 1000;
+
+// The bytes that hold a mark for each entry that a table in a level 4 of 0x2000000 bytes can have: folders of 0x28 bytes, files of 0x30.
+const FOLDER_MARKS: usize = 104_858;
+
+const FILE_MARKS: usize = 87_382;
 
 // The files from one on, in sibling order.
 fn list_files(
@@ -42,7 +50,7 @@ fn list_files(
             return step;
         };
         n = m;
-        f = field_of(view, image, s.files, f, 0x14);
+        f = field_of(view, image, s.files, f, NEXT_SIBLING);
     }
     Walked::Met(n)
 }
@@ -81,7 +89,7 @@ fn list_folder(
         folder_marks,
         file_marks,
         row,
-        field_of(view, image, s.folders, e, 0x1C),
+        field_of(view, image, s.folders, e, FIRST_FILE),
         n,
     );
     let Walked::Met(m) = inside else {
@@ -95,7 +103,7 @@ fn list_folder(
         folder_marks,
         file_marks,
         row,
-        field_of(view, image, s.folders, e, 0x18),
+        field_of(view, image, s.folders, e, FIRST_FOLDER),
         depth + 1,
         m,
     )
@@ -138,20 +146,20 @@ fn list_folders(
             return below;
         };
         n = m;
-        e = field_of(view, image, s.folders, e, 0x14);
+        e = field_of(view, image, s.folders, e, NEXT_SIBLING);
     }
     Walked::Met(n)
 }
 
-// The walk from the root, with marks of its own: a bit for each entry that tables in a level 4 of 0x2000000 bytes can have.
+// The walk from the root, with marks of its own.
 fn walk_root(s: Save, view: View, image: &[u8], known: &mut [u8], row: &mut [u8]) -> Walked
     requires { ⌜ (Legible view (now image) (now known)) × (Listable s (view .level4 .log) (view .level4 .size)) ⌝ }
     ensures answer { λ r. ⌜ r ≡ answerOf (listing s (versionOf view (now (image .entry)) .bytes) (versionOf view (now (image .entry)) .verified)) ⌝ }
     ensures state { λ _. ⌜ Lays s (versionOf view (now (image .entry)) .bytes) (now (row .entry)) (listing s (versionOf view (now (image .entry)) .bytes) (versionOf view (now (image .entry)) .verified)) (now (row .exit)) ⌝ }
     ensures knows { λ _. ⌜ Knows view (now (image .entry)) (now (known .exit)) ⌝ }
 {
-    let mut folder_marks = [0u8; 104_858];
-    let mut file_marks = [0u8; 87_382];
+    let mut folder_marks = [0u8; FOLDER_MARKS];
+    let mut file_marks = [0u8; FILE_MARKS];
     list_folder(
         s,
         view,

@@ -9,6 +9,15 @@ use names::SaveOpened;
 use names::Table;
 use names::header::table_place;
 use names::header::well_formed;
+use names::places::FILE_BUCKETS;
+use names::places::FILE_ENTRY;
+use names::places::FILE_HASH;
+use names::places::FILE_TABLE;
+use names::places::FOLDER_ENTRY;
+use names::places::FOLDER_TABLE;
+use names::places::HEADER;
+use names::places::MOST_FILES;
+use names::places::MOST_FOLDERS;
 use number::fields::field4;
 use number::fields::field8;
 ghost use mathlib.Core.Path.{_≡_};
@@ -44,22 +53,22 @@ fn save_of(view: View, image: &[u8], header: &[u8]) -> Save
         view,
         image,
         header,
-        0x68,
-        0x28,
-        field4(header, 0x70) as u64 + 2,
+        FOLDER_TABLE,
+        FOLDER_ENTRY,
+        field4(header, MOST_FOLDERS) as u64 + 2,
     );
     let files = table_of(
         view,
         image,
         header,
-        0x78,
-        0x30,
-        field4(header, 0x80) as u64 + 1,
+        FILE_TABLE,
+        FILE_ENTRY,
+        field4(header, MOST_FILES) as u64 + 1,
     );
     Save {
         log: view.level4.log,
-        hash: field8(header, 0x38),
-        buckets: field4(header, 0x40) as u64,
+        hash: field8(header, FILE_HASH),
+        buckets: field4(header, FILE_BUCKETS) as u64,
         folders,
         files,
     }
@@ -70,12 +79,12 @@ fn read_entries(s: Save, view: View, image: &[u8], known: &mut [u8]) -> SaveOpen
     requires { ⌜ (Legible view (now image) (now known)) × (s .log ≡ view .level4 .log) × (s .folders .place + 0x28 ≤ view .level4 .size) × (s .files .place + 0x30 ≤ view .level4 .size) ⌝ }
     ensures { λ r. ⌜ (r ≡ entriesRead (versionOf view (now (image .entry)) .verified) s) × (Knows view (now (image .entry)) (now (known .exit))) ⌝ }
 {
-    let first = read_at(view, image, known, s.folders.place, 0x28);
+    let first = read_at(view, image, known, s.folders.place, FOLDER_ENTRY);
     match first {
         Reach::Invalid => SaveOpened::NoSave,
         Reach::Unverified(b) => SaveOpened::Unverified(b),
         Reach::At(x) => {
-            let second = read_at(view, image, known, s.files.place, 0x30);
+            let second = read_at(view, image, known, s.files.place, FILE_ENTRY);
             match second {
                 Reach::Invalid => SaveOpened::NoSave,
                 Reach::Unverified(b) => SaveOpened::Unverified(b),
@@ -90,7 +99,7 @@ fn judge_header(view: View, image: &[u8], known: &mut [u8]) -> SaveOpened
     requires { ⌜ (Legible view (now image) (now known)) × (0x88 ≤ view .level4 .size) ⌝ }
     ensures { λ r. ⌜ (r ≡ judgedHeader (versionOf view (now (image .entry)) .bytes) (versionOf view (now (image .entry)) .verified) (view .level4 .log)) × (Knows view (now (image .entry)) (now (known .exit))) ⌝ }
 {
-    let mut header = [0u8; 0x88];
+    let mut header = [0u8; HEADER];
     gather(view, image, 4, 0, &mut header);
     if well_formed(&header, view.level4.size) {
         read_entries(save_of(view, image, &header), view, image, known)
@@ -104,10 +113,10 @@ pub fn open_save(view: View, image: &[u8], known: &mut [u8]) -> SaveOpened
     requires { ⌜ Legible view (now image) (now known) ⌝ }
     ensures { λ r. ⌜ (r ≡ openSave (versionOf view (now (image .entry)) .bytes) (versionOf view (now (image .entry)) .verified) (view .level4 .log)) × (Knows view (now (image .entry)) (now (known .exit))) ⌝ }
 {
-    if view.level4.size < 0x88 {
+    if view.level4.size < HEADER as u64 {
         return SaveOpened::NoSave;
     }
-    let header = read_at(view, image, known, 0, 0x88);
+    let header = read_at(view, image, known, 0, HEADER as u64);
     match header {
         Reach::Invalid => SaveOpened::NoSave,
         Reach::Unverified(b) => SaveOpened::Unverified(b),

@@ -11,6 +11,8 @@ use names::Reach;
 use names::Save;
 use names::Search;
 use names::hashing::bucket_of;
+use names::places::NAME;
+use names::places::NEXT_IN_BUCKET;
 use number::runs::same_bytes;
 ghost use mathlib.Core.Path.{_≡_};
 ghost use mathlib.Core.Bool.{false};
@@ -30,7 +32,7 @@ fn is_named(s: Save, view: View, image: &[u8], f: u64, at: u64, parent: u64, nam
     ensures { λ r. ⌜ r ≡ named s (versionOf view (now (image .entry)) .bytes) parent (now (name .entry)) f ⌝ }
 {
     let mut own = [0u8; 16];
-    gather(view, image, 4, at + 4, &mut own);
+    gather(view, image, 4, at + NAME, &mut own);
     (word_at(view, image, at) == parent) & same_bytes(&own, name)
 }
 
@@ -58,7 +60,7 @@ fn follow(
             if is_named(s, view, image, f, at, parent, name) {
                 Link::Last(Search::File(f))
             } else {
-                Link::Next(field_of(view, image, s.files, f, 0x2C))
+                Link::Next(field_of(view, image, s.files, f, NEXT_IN_BUCKET))
             }
         }
     }
