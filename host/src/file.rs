@@ -100,6 +100,14 @@ impl ImageFile {
     }
 }
 
+/// The lock that [`ImageFile::open_to_write`] takes, on a file that may hold anything: for whoever replaces it. It is
+/// held as long as the file is open.
+pub fn lock_exclusively(path: &Path) -> Result<File, Error> {
+    let file = open_regular(path, OpenOptions::new().read(true))?;
+    lock(path, file.try_lock())?;
+    Ok(file)
+}
+
 /// Opens what a path names, which must be a regular file: opening a pipe might wait for ever, and a device is no file
 /// of fixed length. Links are followed.
 fn open_regular(path: &Path, options: &OpenOptions) -> Result<File, Error> {

@@ -5,7 +5,7 @@
 //! after the commit; but it must be gone before the next commit stores anything (see [`remember`]).
 
 use std::fs;
-use std::io;
+use std::io::{self, ErrorKind};
 use std::path::{Path, PathBuf};
 
 use crate::boundary::SESSION_SIZE;
@@ -24,20 +24,29 @@ pub fn recall(image: &Path) -> Session {
     read_memory(&path_of(image)).filter(|session| !session.is_begun()).unwrap_or_default()
 }
 
-/// The length is asked first, so that a file of any other size, or a pipe, is not read.
 fn read_memory(path: &Path) -> Option<Session> {
-    let length = fs::metadata(path).ok()?.len();
-    if length != SESSION_SIZE as u64 {
+    if !may_hold_memory(path).ok()? {
         return None;
     }
     Some(Session::from_bytes(fs::read(path).ok()?.try_into().ok()?))
 }
 
-/// Remembers a session, whole or not at all. A session that has nothing to remember leaves no file behind.
+/// Whether a file of the right length is there. It is not opened: what cannot be read may still be a memory, and to
+/// open a pipe would wait for ever. A name that is too long is no file's.
+fn may_hold_memory(path: &Path) -> io::Result<bool> {
+    match fs::metadata(path) {
+        Ok(metadata) => Ok(metadata.is_file() && metadata.len() == SESSION_SIZE as u64),
+        Err(error) if matches!(error.kind(), ErrorKind::NotFound | ErrorKind::InvalidFilename) => Ok(false),
+        Err(error) => Err(error),
+    }
+}
+
+/// Remembers a session, whole or not at all. A session that has nothing to remember leaves no memory behind, not even
+/// one that cannot be read; what is no memory stays.
 ///
 /// A commit's stores go to where the state before the last commit still lies. So whoever keeps a memory forgets it, by
 /// a fresh session, before the next commit: if that one stops half way, the header may still be the remembered one, but
-/// what lies behind is not.
+/// what lies behind is not. If forgetting fails, nothing must be stored.
 ///
 /// ```
 /// use teplovist::{memory, Image, Kind, Session};
@@ -61,11 +70,11 @@ fn read_memory(path: &Path) -> Option<Session> {
 pub fn remember(image: &Path, session: &Session) -> io::Result<()> {
     let path = path_of(image);
     if *session != Session::new() {
-        return replace(&path, session.as_bytes());
+        return Ok(replace(&path, session.as_bytes())?);
     }
-    match fs::remove_file(&path) {
-        Ok(()) => sync_folder_of(&path),
-        Err(error) if error.kind() == io::ErrorKind::NotFound => Ok(()),
-        Err(error) => Err(error),
+    if may_hold_memory(&path)? {
+        fs::remove_file(&path)?;
+        sync_folder_of(&path)?;
     }
+    Ok(())
 }

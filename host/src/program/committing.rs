@@ -47,9 +47,6 @@ pub fn commit_session(
 /// A commit's stores go to where the state before the last one still lies. If they stop half way, nobody must step back
 /// to it, so it is forgotten before them, as a begun session forgets it.
 pub fn forget_last_commit(path: &Path) -> Result<(), Failure> {
-    if memory::recall(path) == Session::new() {
-        return Ok(());
-    }
     memory::remember(path, &Session::new())
         .map_err(|error| Failure::file("remove what revert remembers of", path, &error))
 }

@@ -19,7 +19,7 @@ pub enum Status {
     /// An input or output error; the image is as it was.
     Unchanged = 4,
     /// A store failed so that the image may have changed: the header may or may not have landed, or only part of the
-    /// bytes that are written in place to an external level 4.
+    /// bytes that are written in place to an external level 4; or a new image has its name, but may not keep it.
     Uncertain = 5,
 }
 
@@ -40,7 +40,7 @@ impl Failure {
         Failure::Usage { command: Some(command), words: words.into() }
     }
 
-    /// A file that is not the image could not be read or written.
+    /// A file could not be read or written: another one than the image, or the image before anything of it changed.
     pub fn file(what: &str, path: &Path, error: &io::Error) -> Failure {
         Failure::Unchanged(format!("cannot {what} {}: {error}", path.display()))
     }

@@ -1,10 +1,10 @@
 //! `new`: a blank image in a file.
 
-use std::fs::{self, File, TryLockError};
+use std::fs::File;
 use std::io::{self, ErrorKind, Write};
 use std::path::{Path, PathBuf};
 
-use teplovist::{create, replace, Error, Image, Kind};
+use teplovist::{create, lock_exclusively, replace, Error, Image, Kind, ReplaceError};
 
 use super::answer::Answer;
 use super::arguments::{shown, Arguments, Form};
@@ -68,27 +68,18 @@ fn store_image(path: &Path, image: &[u8], force: bool) -> Result<(), Failure> {
         forget_last_commit(path)?;
     }
     let stored = if force { replace(path, image) } else { create(path, image) };
-    stored.map_err(|error| match error.kind() {
-        ErrorKind::AlreadyExists => already_there(path),
-        _ => Failure::file("make", path, &error),
+    stored.map_err(|error| match error {
+        ReplaceError::Unchanged(error) if error.kind() == ErrorKind::AlreadyExists => already_there(path),
+        ReplaceError::Unchanged(error) => Failure::file("make", path, &error),
+        ReplaceError::Unsynced(_) => Failure::Uncertain(format!("{}: {error}", path.display())),
     })
 }
 
-/// The exclusive lock of a file that is there. It must be a regular one: to open a pipe would wait for ever.
+/// The exclusive lock of a file, if it is there.
 fn lock_existing(path: &Path) -> Result<Option<File>, Failure> {
-    let failed = |error: io::Error| Failure::file("replace", path, &error);
-    let metadata = match fs::metadata(path) {
-        Err(error) if error.kind() == ErrorKind::NotFound => return Ok(None),
-        found => found.map_err(failed)?,
-    };
-    if !metadata.is_file() {
-        return Err(failed(io::Error::other("it is no regular file")));
-    }
-    let file = File::open(path).map_err(failed)?;
-    match file.try_lock() {
-        Ok(()) => Ok(Some(file)),
-        Err(TryLockError::WouldBlock) => Err(Error::Locked { path: path.into() }.into()),
-        Err(TryLockError::Error(error)) => Err(failed(error)),
+    match lock_exclusively(path) {
+        Err(Error::Io { source, .. }) if source.kind() == ErrorKind::NotFound => Ok(None),
+        locked => Ok(Some(locked?)),
     }
 }
 

@@ -47,7 +47,7 @@ fn new_replaces_a_file_only_if_told() {
     scene.done(&["new", "y.img", "--kind", "disa", "--blocks", "2", "--force"]);
     assert_eq!(scene.files(), ["x.img", "y.img"]);
     let line = scene.fails(4, &["new", ".", "--kind", "disa", "--blocks", "2", "--force"]);
-    assert_eq!(line, "cannot replace .: it is no regular file");
+    assert_eq!(line, "cannot open .: it is no regular file");
 }
 
 /// A link that leads nowhere is a name that is taken.
@@ -190,6 +190,32 @@ fn a_commit_whose_memory_cannot_be_kept_has_landed() {
     assert_eq!(scene.done(&["read", "blank.img", "--length", "4"]), b"data");
     assert_eq!(scene.files(), ["blank.img", "blank.img.session"]);
     scene.refused(21, &["revert", "blank.img"]);
+}
+
+/// Nobody can tell whether there is a memory behind a link that leads to itself, so nothing is stored.
+#[test]
+fn a_memory_that_cannot_be_looked_for() {
+    let scene = Scene::new();
+    scene.sample("blank.img");
+    scene.put("data", "data");
+    std::os::unix::fs::symlink("blank.img.session", scene.path("blank.img.session")).expect("a link");
+    let line = scene.fails(4, &["write", "blank.img", "--at", "0", "data"]);
+    assert!(line.starts_with("cannot remove what revert remembers of blank.img: "), "{line}");
+    assert_eq!(scene.bytes("blank.img"), sample("blank.img"));
+    scene.refused(21, &["revert", "blank.img"]);
+}
+
+/// With `.session` behind it the name is longer than a name may be, so there is no memory and never was one.
+#[test]
+fn an_image_whose_name_leaves_no_room_for_a_memory() {
+    let scene = Scene::new();
+    let image = "x".repeat(250);
+    scene.put(&image, sample("blank.img"));
+    let ran = scene.run_with_input(&["write", &image, "--at", "0"], b"data");
+    assert_eq!(ran.status, 0, "{}", ran.errors);
+    assert!(ran.errors.contains("the commit has landed, but revert cannot take it back: "), "{}", ran.errors);
+    assert_eq!(scene.done(&["read", &image, "--length", "4"]), b"data");
+    assert_eq!(scene.files(), [image]);
 }
 
 #[test]

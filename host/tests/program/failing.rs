@@ -1,9 +1,12 @@
 //! Files that cannot be had, locks that others hold, and output that nobody takes.
 
 use std::ffi::OsString;
-use std::fs::{self, File};
+use std::fs::{self, File, Permissions};
 use std::io::Read;
 use std::os::unix::ffi::OsStringExt;
+use std::os::unix::fs::{chown, MetadataExt, PermissionsExt};
+use std::os::unix::process::CommandExt;
+use std::path::Path;
 use std::process::{Command, Stdio};
 
 use crate::json::Json;
@@ -148,14 +151,45 @@ fn output_that_finds_no_space() {
     assert!(scene.fails(4, &["read", "disa-one.img", "-o", "/dev/full"]).starts_with("cannot write /dev/full: "));
 }
 
-/// Runs the program where no file can be stored to past so many kilobytes: every such store fails, while the bytes are
-/// there to be read.
-fn run_with_stores_up_to(scene: &Scene, kilobytes: u32, arguments: &[&str]) -> (Option<i32>, String) {
+/// The program where no file can be stored to past so many kilobytes: every such store fails, while the bytes are there
+/// to be read.
+fn with_stores_up_to(scene: &Scene, kilobytes: u32, program: &Path, arguments: &[&str]) -> Command {
     let script = format!("trap '' XFSZ; ulimit -f {kilobytes}; exec \"$0\" \"$@\"");
     let mut command = Command::new("bash");
-    command.args(["-c", &script, env!("CARGO_BIN_EXE_teplovist")]).args(arguments).current_dir(scene.path(""));
+    command.args(["-c", &script]).arg(program).args(arguments).current_dir(scene.path(""));
+    command
+}
+
+fn outcome(mut command: Command) -> (Option<i32>, String) {
     let output = command.stdin(Stdio::null()).output().expect("a shell");
     (output.status.code(), String::from_utf8_lossy(&output.stderr).into_owned())
+}
+
+fn run_with_stores_up_to(scene: &Scene, kilobytes: u32, arguments: &[&str]) -> (Option<i32>, String) {
+    outcome(with_stores_up_to(scene, kilobytes, Path::new(env!("CARGO_BIN_EXE_teplovist")), arguments))
+}
+
+/// The same by somebody whom the modes of files bind. They do not bind root: who runs the tests as root hands the folder
+/// over to another user, and a copy of the program with it, which may lie where only root can go.
+fn run_bound_by_modes(scene: &Scene, kilobytes: u32, arguments: &[&str]) -> (Option<i32>, String) {
+    const ROOT: u32 = 0;
+    const SOMEBODY_ELSE: Option<u32> = Some(65534);
+    let program = scene.path("program");
+    // Another process copies it: a file that this one had open to write might not start, if a test beside forks then.
+    let copied = Command::new("cp").arg(env!("CARGO_BIN_EXE_teplovist")).arg(&program).status();
+    assert!(copied.expect("cp").success());
+    let mut command = with_stores_up_to(scene, kilobytes, &program, arguments);
+    if fs::metadata(scene.path("")).expect("the test's folder").uid() == ROOT {
+        for name in scene.files().iter().map(String::as_str).chain([""]) {
+            chown(scene.path(name), SOMEBODY_ELSE, SOMEBODY_ELSE).expect("root may do that");
+        }
+        SOMEBODY_ELSE.map(|user| command.uid(user).gid(user));
+    }
+    outcome(command)
+}
+
+fn set_mode(scene: &Scene, name: &str, mode: u32) {
+    fs::set_permissions(scene.path(name), Permissions::from_mode(mode)).expect("the file is the test's own");
 }
 
 #[test]
@@ -211,6 +245,40 @@ fn a_new_image_that_finds_no_room() {
     scene.put("x.img", "mine");
     let (status, line) = run_with_stores_up_to(&scene, 4, &[&arguments[..], &["--force"]].concat());
     assert_eq!((status, scene.bytes("x.img")), (Some(4), b"mine".to_vec()), "{line}");
+}
+
+/// The folder takes new names, but cannot be opened to be synced: the old file is gone, and status 4 would deny it.
+#[test]
+fn a_new_image_whose_name_may_not_stay() {
+    for forced in [&["--force"][..], &[]] {
+        let scene = Scene::new();
+        if !forced.is_empty() {
+            scene.put("x.img", "mine");
+        }
+        let arguments = [&["new", "x.img", "--kind", "disa", "--blocks", "2"], forced].concat();
+        set_mode(&scene, "", 0o300);
+        let (status, line) = run_bound_by_modes(&scene, 1000, &arguments);
+        set_mode(&scene, "", 0o700);
+        assert_eq!(status, Some(5), "{line}");
+        assert!(line.starts_with("teplovist: x.img: the new file is in its place, but a power failure may"), "{line}");
+        assert_eq!(line.lines().count(), 1, "{line}");
+        assert_eq!(scene.bytes("x.img"), sample("blank.img"));
+        assert_eq!(scene.files(), ["program", "x.img"]);
+    }
+}
+
+/// What cannot be read is forgotten all the same: a store fails, and then nobody must find it.
+#[test]
+fn a_memory_that_cannot_be_read() {
+    let scene = Scene::new();
+    scene.sample("blank.img");
+    scene.done_with_input(&["write", "blank.img", "--at", "0"], b"first");
+    scene.put("data", "second");
+    set_mode(&scene, "blank.img.session", 0o000);
+    let (status, line) = run_bound_by_modes(&scene, 4, &["write", "blank.img", "--at", "0", "data"]);
+    assert_eq!(status, Some(4), "{line}");
+    assert!(line.starts_with("teplovist: nothing was saved"), "{line}");
+    assert_eq!(scene.files(), ["blank.img", "data", "program"]);
 }
 
 #[test]
