@@ -9,6 +9,9 @@ use crate::Extent;
 /// last.
 pub const FRONT_SIZE: usize = HEADER + HEADER_SIZE;
 
+/// Bytes that are compared at once. Most of an image stays as it is, and long slices compare faster than bytes.
+const CHUNK: usize = 4096;
+
 /// Bytes that are stored by one write.
 #[derive(Clone, Copy, Debug, PartialEq, Eq)]
 pub struct Run {
@@ -59,14 +62,24 @@ pub fn plan(before: &[u8], after: &[u8]) -> Plan {
 }
 
 fn changed_runs(before: &[u8], after: &[u8]) -> Vec<Run> {
-    let mut runs: Vec<Run> = Vec::new();
-    for place in (FRONT_SIZE..after.len()).filter(|place| before[*place] != after[*place]) {
+    let mut runs = Vec::new();
+    for start in (FRONT_SIZE..after.len()).step_by(CHUNK) {
+        let chunk = start..after.len().min(start + CHUNK);
+        if before[chunk.clone()] != after[chunk.clone()] {
+            add_changed(&mut runs, before, after, chunk);
+        }
+    }
+    runs
+}
+
+/// Adds the changed bytes of a chunk. A run that reached the chunk's start goes on in it.
+fn add_changed(runs: &mut Vec<Run>, before: &[u8], after: &[u8], chunk: Range<usize>) {
+    for place in chunk.filter(|place| before[*place] != after[*place]) {
         match runs.last_mut() {
             Some(run) if run.range().end == place => run.length += 1,
             _ => runs.push(Run { place, length: 1 }),
         }
     }
-    runs
 }
 
 fn changed_front(before: &[u8], after: &[u8]) -> Option<Run> {
@@ -103,6 +116,55 @@ mod tests {
         let runs = planned(&[0x200, 0x201, 0x203, LENGTH - 1]).runs;
         let expected = [(0x200, 2), (0x203, 1), (LENGTH - 1, 1)].map(|(place, length)| Run { place, length });
         assert_eq!(runs, expected);
+    }
+
+    /// The runs by a plain walk: each begins at a changed byte behind one that stays, and ends before the next of these.
+    fn walked(before: &[u8], after: &[u8]) -> Vec<Run> {
+        let past_front = FRONT_SIZE..after.len();
+        let changed = |place: &usize| past_front.contains(place) && before[*place] != after[*place];
+        let starts = past_front.clone().filter(|place| changed(place) && !changed(&(place - 1)));
+        starts.map(|place| Run { place, length: (place..).take_while(changed).count() }).collect()
+    }
+
+    /// Numbers that look random and are the same in every run.
+    fn random_below(state: &mut u64, bound: usize) -> usize {
+        *state = state.wrapping_mul(6364136223846793005).wrapping_add(1442695040888963407);
+        (*state >> 33) as usize % bound
+    }
+
+    /// Changes some of the bytes in a random range of random length: about every second one, or nearly all.
+    fn change_somewhere(bytes: &mut [u8], state: &mut u64) {
+        let start = random_below(state, bytes.len());
+        let longest = [3, CHUNK / 2, 3 * CHUNK][random_below(state, 3)];
+        let end = bytes.len().min(start + random_below(state, longest));
+        let flips = [2, 256][random_below(state, 2)];
+        bytes[start..end].iter_mut().for_each(|byte| *byte ^= random_below(state, flips) as u8);
+    }
+
+    #[test]
+    fn runs_are_those_of_a_walk_over_all_bytes() {
+        let state = &mut 1u64;
+        for turn in 0..500 {
+            let length = FRONT_SIZE + random_below(state, 4 * CHUNK);
+            let before: Vec<u8> = (0..length).map(|_| random_below(state, 256) as u8).collect();
+            let mut after = before.clone();
+            (0..random_below(state, 6)).for_each(|_| change_somewhere(&mut after, state));
+            assert_eq!(plan(&before, &after).runs, walked(&before, &after), "turn {turn}");
+        }
+    }
+
+    /// Two bytes before the border between two chunks and two behind it, changed or not in every way.
+    #[test]
+    fn runs_across_the_border_of_two_chunks() {
+        let border = FRONT_SIZE + CHUNK;
+        let before = vec![0; border + CHUNK];
+        for ways in 0..1 << 4 {
+            let mut after = before.clone();
+            after[border - 2..border + 2].copy_from_slice(&[0, 1, 2, 3].map(|bit| ways >> bit & 1));
+            assert_eq!(plan(&before, &after).runs, walked(&before, &after), "{ways:04b}");
+        }
+        let all = Run { place: FRONT_SIZE, length: 2 * CHUNK };
+        assert_eq!(plan(&before, &vec![1; before.len()]).runs, [all]);
     }
 
     #[test]

@@ -27,24 +27,28 @@ pub fn copy_grouping(copies: &Copies) -> Grouping {
 
 /// Both copies of a pair, one above the other. `what` is what a copy is called.
 pub fn draw_copies(page: &mut Page, copies: &Copies, what: &str) {
+    for copy in [0, 1] {
+        draw_copy(page, copies, copy, &format!("{what} {copy}"));
+        page.y += ROW;
+    }
+}
+
+/// One copy's cells in a row, behind its name.
+fn draw_copy(page: &mut Page, copies: &Copies, copy: u8, name: &str) {
     let grouping = copy_grouping(copies);
     let pitch = (COLUMNS * PITCH / grouping.cells() as Px).min(PITCH);
-    for copy in [0, 1] {
-        let y = page.y;
-        page.text((CONTENT_X, y + BASELINE), "detail", &format!("{what} {copy}"));
-        let cells = CopyCells::of(copies, grouping, copy);
-        for (cell, (live, named)) in (0..).zip(cells.live.into_iter().zip(cells.named)) {
-            let x = CELLS_X + cell as Px * pitch;
-            let share = Share { live, all: grouping.size(cell) };
-            let title = copy_title(grouping, cell, &format!("{what} {copy}"), share, named);
-            page.titled(&title, |page| {
-                page.share(share, (x, y), (pitch - 1, HEIGHT));
-                if named > 0 {
-                    page.diamond((x + pitch / 2, y + HEIGHT / 2));
-                }
-            });
-        }
-        page.y += ROW;
+    let y = page.y;
+    page.text((CONTENT_X, y + BASELINE), "detail", name);
+    let cells = CopyCells::of(copies, grouping, copy);
+    for (cell, (live, named)) in (0..).zip(cells.live.into_iter().zip(cells.named)) {
+        let x = CELLS_X + cell as Px * pitch;
+        let share = Share { live, all: grouping.size(cell) };
+        page.titled(&copy_title(grouping, cell, name, share, named), |page| {
+            page.share(share, (x, y), (pitch - 1, HEIGHT));
+            if named > 0 {
+                page.diamond((x + pitch / 2, y + HEIGHT / 2));
+            }
+        });
     }
 }
 

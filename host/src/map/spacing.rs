@@ -64,19 +64,31 @@ pub struct Label {
 /// The middles of labels on a line from 0 to `line`: each as near to what it names as its neighbours let it, none
 /// within `gap` of the next. Labels come in the order of what they name, and must fit on the line together.
 pub fn spread(labels: &[Label], line: Px, gap: Px) -> Vec<Px> {
-    let mut lefts = Vec::new();
+    let mut lefts = lefts_clear_of_those_before(labels, gap);
+    push_back_onto_line(&mut lefts, labels, line, gap);
+    lefts.iter().zip(labels).map(|(left, label)| left + label.width / 2).collect()
+}
+
+/// The left ends of labels where they are wanted, or as far to the right as those before them make it. The last ones
+/// may stand beyond the line's end.
+fn lefts_clear_of_those_before(labels: &[Label], gap: Px) -> Vec<Px> {
+    let mut lefts = Vec::with_capacity(labels.len());
     let mut reached = 0;
     for label in labels {
         let left = (label.wanted - label.width / 2).max(reached);
         lefts.push(left);
         reached = left + label.width + gap;
     }
+    lefts
+}
+
+/// Moves labels to the left, from the last one on, as far as the line's end and those behind them make it.
+fn push_back_onto_line(lefts: &mut [Px], labels: &[Label], line: Px, gap: Px) {
     let mut limit = line;
     for (left, label) in lefts.iter_mut().zip(labels).rev() {
         *left = (*left).min(limit - label.width);
         limit = *left - gap;
     }
-    lefts.iter().zip(labels).map(|(left, label)| left + label.width / 2).collect()
 }
 
 /// How wide a text may come out in whatever sans-serif font the viewer has. DejaVu Sans is about the widest in use:

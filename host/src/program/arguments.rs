@@ -187,16 +187,22 @@ pub fn suggestion<'a>(mistyped: &str, known: impl Iterator<Item = &'a str>) -> S
 fn edits_between(one: &str, other: &str) -> usize {
     let other: Vec<char> = other.chars().collect();
     let mut row: Vec<usize> = (0..=other.len()).collect();
-    for (index, letter) in one.chars().enumerate() {
-        let mut diagonal = row[0];
-        row[0] = index + 1;
-        for column in 0..other.len() {
-            let changed = diagonal + usize::from(letter != other[column]);
-            diagonal = row[column + 1];
-            row[column + 1] = changed.min(diagonal + 1).min(row[column] + 1);
-        }
+    for letter in one.chars() {
+        add_letter(&mut row, letter, &other);
     }
     row[other.len()]
+}
+
+/// A row has, for each beginning of the other word, how many edits lead to it from the beginning of the one word that
+/// was taken so far. That gets one letter longer here.
+fn add_letter(row: &mut [usize], letter: char, other: &[char]) {
+    let mut diagonal = row[0];
+    row[0] += 1;
+    for column in 0..other.len() {
+        let changed = diagonal + usize::from(letter != other[column]);
+        diagonal = row[column + 1];
+        row[column + 1] = changed.min(diagonal + 1).min(row[column] + 1);
+    }
 }
 
 #[cfg(test)]

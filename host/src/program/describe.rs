@@ -2,7 +2,7 @@
 
 use std::io::{self, Write};
 
-use teplovist::{Description, Extent, Level, Partition, PartitionLayout, Refusal};
+use teplovist::{Description, Extent, Level, Partition, PartitionLayout, Refusal, Table};
 
 use super::answer::Answer;
 use super::arguments::{Arguments, Form};
@@ -52,30 +52,32 @@ impl Described {
         let counts = self.verified.iter();
         self.description.partitions().zip(counts).map(|((partition, layout), count)| (partition, layout, *count))
     }
-}
 
-impl Answer for Described {
-    fn plain(&self, out: &mut dyn Write) -> io::Result<()> {
-        let Description { kind, active_table, primary, secondary, .. } = self.description;
-        writeln!(out, "{kind}\npartitions {}\ntable {active_table}", self.verified.len())?;
+    /// How many blocks each partition has, and how many of them are verified.
+    fn write_counts(&self, out: &mut dyn Write) -> io::Result<()> {
         for (partition, layout, verified) in self.partitions() {
             let level4 = layout.level4();
             writeln!(out, "{partition} level4 {} blocks {} stands {verified}", level4.size, level4.blocks())?;
         }
+        Ok(())
+    }
+}
+
+impl Answer for Described {
+    fn plain(&self, out: &mut dyn Write) -> io::Result<()> {
+        let Description { kind, active_table, .. } = self.description;
+        writeln!(out, "{kind}\npartitions {}\ntable {active_table}", self.verified.len())?;
+        self.write_counts(out)?;
         writeln!(
             out,
             "\nimage             {} bytes{}",
             self.length,
             if self.signature_checked { ", signed" } else { "" }
         )?;
-        for (name, extent) in [("primary", primary), ("secondary", secondary)] {
-            let active = if active_table.to_string() == name { "; active" } else { "" };
-            write_row(out, &format!("{name} table"), extent, active)?;
-        }
-        for (partition, layout, verified) in self.partitions() {
-            write_partition(out, partition, layout, verified)?;
-        }
-        Ok(())
+        write_table(out, &self.description, Table::Primary)?;
+        write_table(out, &self.description, Table::Secondary)?;
+        self.partitions()
+            .try_for_each(|(partition, layout, verified)| write_partition(out, partition, layout, verified))
     }
 
     fn members(&self) -> Vec<Member> {
@@ -96,6 +98,11 @@ impl Answer for Described {
 /// A part's name, its first byte and its size, and what else is to be said.
 fn write_row(out: &mut dyn Write, name: &str, extent: Extent, note: &str) -> io::Result<()> {
     writeln!(out, "{name:<17} at {:#x}, {} bytes{note}", extent.offset, extent.size)
+}
+
+fn write_table(out: &mut dyn Write, description: &Description, table: Table) -> io::Result<()> {
+    let note = if table == description.active_table { "; active" } else { "" };
+    write_row(out, &format!("{table} table"), description.table(table), note)
 }
 
 fn write_level(out: &mut dyn Write, name: &str, level: Level, note: &str) -> io::Result<()> {

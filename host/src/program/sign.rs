@@ -2,6 +2,7 @@
 
 use std::io::{self, Write};
 
+use teplovist::boundary::DIGEST_SIZE;
 use teplovist::ImageFile;
 
 use super::answer::Answer;
@@ -34,7 +35,7 @@ examples:
 struct Signed(Landed);
 
 struct ToBeSigned {
-    digest: [u8; 32],
+    digest: [u8; DIGEST_SIZE],
 }
 
 fn run(arguments: &Arguments) -> Outcome {

@@ -6,6 +6,7 @@ use std::fs::File;
 use std::io::{self, Read};
 use std::path::Path;
 
+use teplovist::boundary::KEY_SIZE;
 use teplovist::{Key, Signer};
 
 use super::arguments::{read_number, shown, Arguments};
@@ -15,7 +16,6 @@ use super::hex::from_hex;
 pub const KEY_FILE: &str = "--key-file";
 pub const SIGNER: &str = "--signer";
 
-const KEY_SIZE: usize = 16;
 /// More than any file that holds a key has: digits, and white space around them.
 const LONGEST_KEY_FILE: u64 = 1024;
 

@@ -89,6 +89,17 @@ pub fn save() -> Vec<u8> {
     bytes
 }
 
+/// The same with the data region at another place, in two blocks of level 4.
+fn save_with_region_at(region: usize) -> Vec<u8> {
+    let mut bytes = save();
+    let moved = bytes.split_off(REGION);
+    bytes.resize(region, 0);
+    bytes.extend(moved);
+    bytes.resize(2 * LEVEL4_SIZE, 0);
+    put_word(&mut bytes, 0x58, region as u32);
+    bytes
+}
+
 fn with_save() -> Scene {
     let scene = Scene::new();
     scene.done(&["new", "x.img", "--kind", "disa", "--blocks", "1"]);
@@ -100,6 +111,19 @@ fn with_save() -> Scene {
 fn names_and_where_they_are() {
     let scene = with_save();
     assert_eq!(String::from_utf8(scene.done(&["ls", "x.img"])).expect("text"), LISTING);
+}
+
+/// Next sibling and first subfolder of the folder with number 3 lie on both sides of the border of two blocks, as many
+/// of their eight bytes before it as can be.
+#[test]
+fn an_entry_across_two_blocks() {
+    let scene = Scene::new();
+    scene.done(&["new", "x.img", "--kind", "disa", "--blocks", "2"]);
+    for before_the_border in 0..=8 {
+        let region = LEVEL4_SIZE - before_the_border - (3 * FOLDER_SIZE + 0x14);
+        scene.done_with_input(&["write", "x.img", "--at", "0"], &save_with_region_at(region));
+        assert_eq!(String::from_utf8(scene.done(&["ls", "x.img"])).expect("text"), LISTING, "{region:#x}");
+    }
 }
 
 #[test]
