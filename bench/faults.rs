@@ -3,8 +3,11 @@
 
 use std::hint::black_box;
 
+use crate::boundary::Library;
 use crate::image::{blocks_within, damaged_of, filled, SMALLEST};
 use crate::rows::{clock, print_cells};
+use crate::rules::faults::FaultRecord;
+use crate::subject::Subject;
 use crate::timing::per_call;
 
 /// The images' lengths in MiB, at most.
@@ -14,20 +17,10 @@ const TURNS: usize = 5;
 /// A block of level 4.
 const BLOCK: usize = 32;
 
-#[repr(C)]
-#[derive(Clone, Default)]
-struct Fault {
-    partition: u64,
-    level: u64,
-    block: u64,
-}
+const EMPTY: FaultRecord = FaultRecord { partition: 0, level: 0, block: 0 };
 
-extern "C" {
-    fn teplovist_faults(image: *const u8, image_len: usize, row: *mut Fault, row_len: usize) -> u64;
-}
-
-fn faults(image: &[u8], row: &mut [Fault]) -> usize {
-    let answer = unsafe { teplovist_faults(image.as_ptr(), image.len(), row.as_mut_ptr(), row.len()) };
+fn faults(image: &[u8], row: &mut [FaultRecord]) -> usize {
+    let answer = Library.faults(image, row);
     assert_eq!(answer & 0xFF, 0, "an image that opens");
     (answer >> 8) as usize
 }
@@ -45,7 +38,7 @@ impl Faults {
             let image = damaged_of(&SMALLEST, &filled(blocks * BLOCK, blocks as u64));
             let number = faults(&image, &mut []);
             assert_eq!(number, blocks.div_ceil(2) * 2, "half of level 3 and what is below it");
-            let mut row = vec![Fault::default(); number];
+            let mut row = vec![EMPTY; number];
             let mut turn = || per_call(1, || assert_eq!(faults(&image, black_box(&mut row)), number));
             (0..TURNS).map(|_| turn()).fold(f64::MAX, f64::min)
         });

@@ -17,9 +17,12 @@ static size_t length;
 static uint8_t session[TEPLOVIST_SESSION_SIZE];
 static uint8_t data[MOST_WRITTEN * BLOCK];
 
-/* The debugger stops here. No block of the levels from 1 up to this one may be hashed more often than that. */
-__attribute__((noinline)) void case_starts(const char *name, int level, int most) {
-    __asm__ volatile("" : : "r"(name), "r"(level), "r"(most) : "memory");
+/*
+ * The debugger stops here. No block of the levels from 1 up to this one may be hashed more often than that, and of each level from 1 up to `seen` a block
+ * must be.
+ */
+__attribute__((noinline)) void case_starts(const char *name, int level, int most, int seen) {
+    __asm__ volatile("" : : "r"(name), "r"(level), "r"(most), "r"(seen) : "memory");
 }
 __attribute__((noinline)) void case_ends(void) { __asm__ volatile("" : : : "memory"); }
 
@@ -55,28 +58,32 @@ static void start(int fresh) {
 
 static void measured(const char *name, int fresh, uint64_t place, size_t count) {
     start(fresh);
-    case_starts(name, 3, 2);
+    case_starts(name, 3, 2, 4);
     must(teplovist_write(image, length, session, 0, place, data, count));
     case_ends();
     /* The same once more: nothing moves off the live copies now, and what was fresh is sound. */
-    case_starts("the same again", 3, 2);
+    case_starts("the same again", 3, 2, 4);
     must(teplovist_write(image, length, session, 0, place, data, count));
     case_ends();
 }
 
-/* A fault list with a row for each fault, and one with none. */
+/*
+ * A fault list into a row without room, for which a record is lent all the same since no pointer may be null, and one into a row with room for each
+ * fault. Below a level that is damaged as a whole there is nothing to hash.
+ */
 static void listed(const char *name, int level, uint64_t step) {
     uint64_t faults;
-    teplovist_fault *row;
+    teplovist_fault unused, *row;
+    int seen = step == 1 ? level : 4;
     must(teplovist_make_blank(image, length, 0, BLOCKS));
     if (level != 0)
         spoil(level, step);
-    case_starts(name, 4, 1);
-    faults = teplovist_faults(image, length, NULL, 0);
+    case_starts(name, 4, 1, seen);
+    faults = teplovist_faults(image, length, &unused, 0);
     case_ends();
     must(faults & 0xFF);
     row = malloc(((faults >> 8) + 1) * sizeof *row);
-    case_starts("the same into a row", 4, 1);
+    case_starts("the same into a row", 4, 1, seen);
     if (row == NULL || teplovist_faults(image, length, row, faults >> 8) != faults || (level != 0) != (faults >> 8 != 0))
         must(1);
     case_ends();
@@ -103,7 +110,7 @@ int main(void) {
     measured("1000 blocks, fresh", 1, 2000 * BLOCK, 1000 * BLOCK);
     listed("faults, sound", 0, 0);
     listed("faults, level 1 damaged", 1, 1);
-    listed("faults, a block of level 1 damaged", 1, 1000);
+    listed("faults, level 2 damaged", 2, 1);
     listed("faults, every second block of level 2 damaged", 2, 2);
     listed("faults, every third block of level 3 damaged", 3, 3);
     listed("faults, every third block of level 4 damaged", 4, 3);

@@ -7,18 +7,18 @@ use crate::boundary::Library;
 use crate::calls::Calls;
 use crate::counting::{self, hashed_by, Hashed};
 use crate::image::{filled, fresh_of, image_of, BLOCK, TABLE_SIZE, USUAL};
-use crate::names::{name_of, NamedSave};
+use crate::names::{folder_of, name_of, NamedSave};
 use crate::openssl;
 use crate::plain_sha256::{Sha256, FORMS};
 use crate::rows::Row;
 use crate::straightforward::Straightforward;
+use crate::subject::blank::Blanks;
 use crate::subject::Rules;
 use crate::timing::{best_turns, per_call};
 
+// Of the crate sha256_bench, and no part of the boundary: the digest of a slice.
 extern "C" {
     fn teplovist_sha256(message: *const u8, length: usize, out: *mut u8);
-    fn teplovist_blank_length(blocks: u64) -> u64;
-    fn teplovist_make_blank(image: *mut u8, image_len: usize, kind: u64, blocks: u64) -> u64;
 }
 
 fn proved_digest(message: &[u8]) -> [u8; 32] {
@@ -190,7 +190,7 @@ impl World {
     pub fn finding(&self, files: usize) -> Option<Row> {
         let save = NamedSave::new(files);
         let wanted = files / 2;
-        let (folder, name) = ((wanted as u64 - 1) / 100 + 2, name_of(wanted));
+        let (folder, name) = (folder_of(wanted) as u64, name_of(wanted));
         let call = || assert_eq!(save.find(black_box(folder), black_box(&name)), (wanted as u64) << 8);
         let touched = 5 * BLOCK;
         let [time, time_of_b] = best_turns([&mut || per_call(1, call), &mut || self.hash_all(&save.data[..touched])]);
@@ -205,9 +205,9 @@ impl World {
     /// A blank image made over another one, against clearing as many bytes and hashing its hash levels block by block.
     pub fn blank(&self) -> Option<Row> {
         let blocks = BLOCKS as u64;
-        let mut images = [(); 2].map(|()| vec![1; unsafe { teplovist_blank_length(blocks) } as usize]);
+        let mut images = [(); 2].map(|()| vec![1; Library.blank_length(blocks) as usize]);
         let [made, cleared] = &mut images;
-        let mut make = || accepted(unsafe { teplovist_make_blank(made.as_mut_ptr(), made.len(), 0, blocks) });
+        let mut make = || accepted(Library.make_blank(made, 0, blocks));
         let mut clear = || black_box(&mut *cleared).fill(0);
         let [time, clearing, hashing] =
             best_turns([&mut || per_call(1, &mut make), &mut || per_call(1, &mut clear), &mut || {

@@ -1,21 +1,33 @@
 //! Names inside a save: a save of many files, and the two calls on it.
 
+use crate::boundary::Library;
 use crate::image::{put, save_of, BLOCK};
+use crate::rules::extent::number;
+use crate::rules::names::{
+    bucket, Name, FILE_ENTRY_SIZE, FOLDER_ENTRY_SIZE, NAME_LENGTH, RECORD_LENGTH, ROOT, SAVE_HEADER_SIZE, SAVE_OPENING,
+};
+use crate::subject::names::Names;
 
-extern "C" {
-    fn teplovist_list_names(image: *const u8, image_length: usize, row: *mut u8, row_length: usize) -> u64;
-    fn teplovist_find_file(image: *const u8, image_length: usize, folder: u64, name: *const u8) -> u64;
+/// The data block size that the header names; here the tables are aligned to it too.
+const UNIT: usize = 0x200;
+/// A word of a bucket.
+const WORD: usize = 4;
+/// How many files a folder has.
+const FILES: usize = 100;
+/// The first folder below the root.
+const FIRST_FOLDER: usize = ROOT as usize + 1;
+
+/// The number of the folder that a file is in.
+pub fn folder_of(file: usize) -> usize {
+    (file - 1) / FILES + FIRST_FOLDER
 }
 
-/// A listing's record.
-const RECORD: usize = 24;
-/// The header, its data block size, and the sizes of a folder's and a file's entry.
-const HEADER: usize = 0x88;
-const UNIT: usize = 0x200;
-const FOLDER: usize = 0x28;
-const FILE: usize = 0x30;
-/// The root's number.
-const ROOT: u32 = 1;
+/// A file's name: its number, with zeros after it.
+pub fn name_of(file: usize) -> Name {
+    let mut name = [0; NAME_LENGTH];
+    put(&mut name, 0, format!("file{file}").as_bytes());
+    name
+}
 
 /// A save of so many files, all of them in folders of 100 below the root.
 pub struct NamedSave {
@@ -23,87 +35,118 @@ pub struct NamedSave {
     pub names: usize,
     /// How many bytes the blocks have that hold the header and the tables' entries.
     pub touched: usize,
-    /// Level 4 up to there.
+    /// Level 4.
     pub data: Vec<u8>,
 }
 
 impl NamedSave {
     pub fn new(files: usize) -> NamedSave {
-        let folders = files / 100;
-        let buckets = files as u32;
-        let hash = HEADER.next_multiple_of(UNIT);
-        let region = (hash + 4 * (1 + files)).next_multiple_of(UNIT);
-        let file_table = (FOLDER * (folders + 2)).next_multiple_of(UNIT);
-        let size = (region + file_table + FILE * (files + 1)).next_multiple_of(BLOCK);
-        let mut data = vec![0; size];
-        let mut word = |at: usize, value: usize| put(&mut data, at, &(value as u32).to_le_bytes());
-        word(0x24, UNIT);
-        word(0x28, hash);
-        word(0x30, 1);
-        word(0x38, hash + 4);
-        word(0x40, files);
-        word(0x58, region);
-        word(0x70, folders);
-        word(0x78, file_table / UNIT);
-        word(0x80, files);
-        // The entries 0: how many are in use. A folder's fields are parent, name, sibling, first subfolder, first file.
-        let folder = |number: usize| region + FOLDER * number;
-        let file = |number: usize| region + file_table + FILE * number;
-        word(folder(0), folders + 2);
-        word(file(0), files + 1);
-        word(folder(1) + 0x18, 2);
-        for number in 2..folders + 2 {
-            word(folder(number), ROOT as usize);
-            word(folder(number) + 4, number);
-            word(folder(number) + 0x14, if number == folders + 1 { 0 } else { number + 1 });
-            word(folder(number) + 0x1C, (number - 2) * 100 + 1);
-        }
-        let mut first = vec![0; files];
-        for number in 1..=files {
-            let parent = (number - 1) / 100 + 2;
-            let name = name_of(number);
-            put(&mut data, file(number) + 4, &name);
-            let mut word = |at: usize, value: usize| put(&mut data, at, &(value as u32).to_le_bytes());
-            word(file(number), parent);
-            word(file(number) + 0x14, if number % 100 == 0 { 0 } else { number + 1 });
-            let bucket = bucket_of(&name, parent as u32, buckets);
-            word(file(number) + 0x2C, first[bucket]);
-            first[bucket] = number;
-        }
-        for (bucket, number) in first.iter().enumerate() {
-            put(&mut data, hash + 4 + 4 * bucket, &(*number as u32).to_le_bytes());
-        }
-        put(&mut data, 0, b"SAVE\0\0\x04\0");
-        let touched = size - region / BLOCK * BLOCK + BLOCK;
-        NamedSave { image: save_of(&data), names: 1 + folders + files, touched, data }
+        let layout = Layout::of(files);
+        let mut data = vec![0; layout.size];
+        layout.put_header(&mut data);
+        layout.put_folders(&mut data);
+        layout.put_files(&mut data);
+        layout.put_chains(&mut data);
+        let touched = layout.size - layout.folder_table / BLOCK * BLOCK + BLOCK;
+        NamedSave { image: save_of(&data), names: 1 + layout.folders + files, touched, data }
     }
 
     /// Lists the names into a row that holds them all.
     pub fn list(&self, row: &mut [u8]) -> u64 {
-        unsafe { teplovist_list_names(self.image.as_ptr(), self.image.len(), row.as_mut_ptr(), row.len()) }
+        Library.list_names(&self.image, row)
     }
 
     pub fn row(&self) -> Vec<u8> {
-        vec![0; RECORD * self.names]
+        vec![0; RECORD_LENGTH * self.names]
     }
 
     /// The entry number of a file, 0 for none.
-    pub fn find(&self, folder: u64, name: &[u8; 16]) -> u64 {
-        unsafe { teplovist_find_file(self.image.as_ptr(), self.image.len(), folder, name.as_ptr()) }
+    pub fn find(&self, folder: u64, name: &Name) -> u64 {
+        Library.find_file(&self.image, folder, name)
     }
 }
 
-/// A file's name: its number, with zeros after it.
-pub fn name_of(number: usize) -> [u8; 16] {
-    let mut name = [0; 16];
-    let text = format!("file{number}");
-    name[..text.len()].copy_from_slice(text.as_bytes());
-    name
+/// How many folders and files there are, and where their tables lie in level 4. There are as many buckets as files.
+struct Layout {
+    folders: usize,
+    files: usize,
+    folder_buckets: usize,
+    file_buckets: usize,
+    folder_table: usize,
+    file_table: usize,
+    size: usize,
 }
 
-/// 004's GetBucket.
-fn bucket_of(name: &[u8; 16], parent: u32, buckets: u32) -> usize {
-    let words = name.chunks(4).map(|bytes| u32::from_le_bytes([bytes[0], bytes[1], bytes[2], bytes[3]]));
-    let hash = words.fold(parent ^ 0x091A2B3C, |hash, word| hash.rotate_right(1) ^ word);
-    (hash % buckets) as usize
+impl Layout {
+    fn of(files: usize) -> Layout {
+        let folders = files / FILES;
+        let folder_buckets = (SAVE_HEADER_SIZE as usize).next_multiple_of(UNIT);
+        let file_buckets = folder_buckets + WORD;
+        let folder_table = (file_buckets + WORD * files).next_multiple_of(UNIT);
+        let file_table = folder_table + (FOLDER_ENTRY_SIZE as usize * (folders + 2)).next_multiple_of(UNIT);
+        let size = (file_table + FILE_ENTRY_SIZE as usize * (files + 1)).next_multiple_of(BLOCK);
+        Layout { folders, files, folder_buckets, file_buckets, folder_table, file_table, size }
+    }
+
+    /// Where an entry lies.
+    fn folder(&self, number: usize) -> usize {
+        self.folder_table + FOLDER_ENTRY_SIZE as usize * number
+    }
+
+    fn file(&self, number: usize) -> usize {
+        self.file_table + FILE_ENTRY_SIZE as usize * number
+    }
+
+    fn put_header(&self, data: &mut [u8]) {
+        put(data, 0, SAVE_OPENING);
+        put_word(data, 0x24, UNIT);
+        put_word(data, 0x28, self.folder_buckets);
+        put_word(data, 0x30, 1);
+        put_word(data, 0x38, self.file_buckets);
+        put_word(data, 0x40, self.files);
+        put_word(data, 0x58, self.folder_table);
+        put_word(data, 0x70, self.folders);
+        put_word(data, 0x78, (self.file_table - self.folder_table) / UNIT);
+        put_word(data, 0x80, self.files);
+    }
+
+    /// Entry 0 has how many are in use; the root has the first of the others, which are siblings.
+    fn put_folders(&self, data: &mut [u8]) {
+        let end = self.folders + FIRST_FOLDER;
+        put_word(data, self.folder(0), end);
+        put_word(data, self.folder(ROOT as usize) + 0x18, FIRST_FOLDER);
+        for number in FIRST_FOLDER..end {
+            let entry = self.folder(number);
+            put_word(data, entry, ROOT as usize);
+            put_word(data, entry + 0x04, number);
+            put_word(data, entry + 0x14, if number + 1 == end { 0 } else { number + 1 });
+            put_word(data, entry + 0x1C, (number - FIRST_FOLDER) * FILES + 1);
+        }
+    }
+
+    /// The files of a folder are siblings.
+    fn put_files(&self, data: &mut [u8]) {
+        put_word(data, self.file(0), self.files + 1);
+        for number in 1..=self.files {
+            let entry = self.file(number);
+            put_word(data, entry, folder_of(number));
+            put(data, entry + 0x04, &name_of(number));
+            put_word(data, entry + 0x14, if number % FILES == 0 { 0 } else { number + 1 });
+        }
+    }
+
+    /// Each file goes in front of those that its bucket has already.
+    fn put_chains(&self, data: &mut [u8]) {
+        for file in 1..=self.files {
+            let chain = bucket(&name_of(file), folder_of(file) as u32, self.files as u32);
+            let first = self.file_buckets + WORD * chain as usize;
+            let next = number(data, first, WORD) as usize;
+            put_word(data, self.file(file) + 0x2C, next);
+            put_word(data, first, file);
+        }
+    }
+}
+
+fn put_word(data: &mut [u8], at: usize, value: usize) {
+    put(data, at, &(value as u32).to_le_bytes());
 }
