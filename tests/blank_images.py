@@ -1,11 +1,11 @@
 """blank_images.py PROGRAM [--all]: holds the images that `PROGRAM KIND BLOCKS` writes to a reading of 02, W12 by itself, byte for byte; some sizes, or all."""
+import collections
 import hashlib
 import struct
 import subprocess
 import sys
 
-# Where a size rounds up to the next block, word or multiple, and a little before and after.
-SOME = [1, 2, 3, 31, 32, 33, 127, 128, 129, 511, 512, 513, 1016, 1017, 1023, 1024, 2032, 2048, 2049, 4064, 4065, 4095, 4096]
+MOST = 4096
 
 
 def up(x, unit):
@@ -33,16 +33,27 @@ def header(kind, partition_size, table):
     return b'DIFF\0\0\3\0' + tables + partition + bytes(4) + sha256(table)
 
 
-def blank(kind, n):
-    level3 = sha256(bytes(0x1000)) * n
-    level2 = digests(level3, 0x1000)
-    level1 = digests(level2, 0x200)
-    h1, h2, h3 = 32 * up(len(level2), 0x200), 32 * up(32 * n, 0x1000), 32 * n
+# The sizes of IVFC levels 1 to 3, level 4's place, the sizes of DPFS levels 1 to 3, and level 3's place.
+Layout = collections.namedtuple('Layout', 'h1 h2 h3 place4 size1 size2 size3 place3')
+
+
+def layout(n):
+    h3 = 32 * n
+    h2 = 32 * up(h3, 0x1000)
+    h1 = 32 * up(h2, 0x200)
     place4 = 0x1000 * up(h1 + h2 + h3, 0x1000)
     size3 = place4 + 0x1000 * n
     size2 = 0x80 * up(up(size3, 0x1000), 8 * 0x80)
     size1 = 4 * up(up(size2, 0x80), 8 * 4)
     place3 = 0x1000 * up(2 * size1 + 2 * size2, 0x1000)
+    return Layout(h1, h2, h3, place4, size1, size2, size3, place3)
+
+
+def blank(kind, n):
+    level3 = sha256(bytes(0x1000)) * n
+    level2 = digests(level3, 0x1000)
+    level1 = digests(level2, 0x200)
+    h1, h2, h3, place4, size1, size2, size3, place3 = layout(n)
     table = b''.join([
         b'DIFI\0\0\1\0', numbers(0x44, 0x78, 0xBC, 0x50, 0x10C, 0x20), bytes(12),
         b'IVFC\0\0\2\0', numbers(0x20, 0, h1, 9, h1, h2, 9, h1 + h2, h3, 12, place4, 0x1000 * n, 12, 0x78),
@@ -54,8 +65,21 @@ def blank(kind, n):
     return bytes(image)
 
 
+def last_before_growth(field):
+    """The numbers of blocks with which the field has a value for the last time: the next block makes it grow."""
+    values = [getattr(layout(n), field) for n in range(1, MOST + 1)]
+    return [n for n in range(1, MOST) if values[n - 1] != values[n]]
+
+
+def some():
+    """The least and the most, and both sides of the first four borders of each field that is rounded up. (DPFS level 1 and level 3's place are too, but
+    they are the same for every number of blocks.)"""
+    borders = [n for field in ('h1', 'h2', 'place4', 'size2') for n in last_before_growth(field)[:4]]
+    return sorted({1, 2, 3, MOST - 1, MOST, *borders, *(n + 1 for n in borders)})
+
+
 def main(program, which=None):
-    sizes = range(1, 4097) if which == '--all' else SOME
+    sizes = range(1, MOST + 1) if which == '--all' else some()
     wrong = 0
     for n in sizes:
         for kind in (0, 1):

@@ -14,6 +14,10 @@ import os
 import sys
 
 LARGEST = 2**64 - 1
+# A table is at most so long (02, W2). A header may claim more, but more is never made.
+LARGEST_TABLE = 0x2000
+# The images stay small, since the program that opens them takes in all of them at once and has a limit for that.
+LONGEST_IMAGE = 8192
 HEADER = 0x100
 HEADER_FIELDS = {  # name: (offset within the header, length in bytes)
     "DISA": {
@@ -99,7 +103,7 @@ def image(kind, header=None, a=None, b=None, count=1, flag=1, length=None):
     sound_end = 0x200 + 2 * size + PARTITION * tables
     fields.update(header or {})
     out = bytearray(noise(sound_end if length is None else length, kind))
-    table = bytearray(noise(min(fields["table.size"], 0x1000), "table"))
+    table = bytearray(noise(min(fields["table.size"], LARGEST_TABLE), "table"))
     put(table, fields["A.descriptor.offset"] if kind == "DISA" else 0, 0, descriptor({**SOUND_PARTITION, **(a or {})}))
     if tables == 2:
         put(table, fields["B.descriptor.offset"], 0, descriptor({**SOUND_PARTITION, **(b or {})}))
@@ -226,7 +230,7 @@ def main():
     os.makedirs(folder, exist_ok=True)
     with open(os.path.join(folder, "stdin"), "wb") as images, open(os.path.join(folder, "stdout"), "w") as answers:
         for answer, data in CASES:
-            assert len(data) <= 8192
+            assert len(data) <= LONGEST_IMAGE, f"an image of {len(data)} bytes is too long"
             images.write(len(data).to_bytes(4, "little") + data)
             answers.write(answer + "\n")
         images.write(b"\xff" * 4)

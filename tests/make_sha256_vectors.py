@@ -12,7 +12,7 @@ Every digest is computed by Python's hashlib (OpenSSL's code), never by this pro
   chain N      the Monte Carlo test of SHA256Monte.rsp (NIST's SHA Validation System, 6.4), from the seed of that file: 100 times 1000 digests,
                each of the last three. The file's first result is checked.
 
-With --check it compares instead of writing. Where sha256sum or openssl is there, some digests are checked against it too.
+With --check it compares instead of writing. Some digests are compared with sha256sum's and openssl's too; where one of them is not there it says so.
 """
 import hashlib
 import shutil
@@ -85,9 +85,15 @@ def cross_check():
     """Some digests once more, by other programs."""
     for command in (['sha256sum'], ['openssl', 'dgst', '-sha256', '-r']):
         if shutil.which(command[0]):
-            for message in (b'', RULED[:55], RULED[:56], RULED[:64], RULED[:119], RULED[:120], RULED, b'a' * 1000000):
-                said = subprocess.run(command, input=message, capture_output=True, check=True).stdout.decode().split()[0]
-                expect(digest(message), said, f'{len(message)} bytes by {command[0]}')
+            compare_with(command)
+        else:
+            print(f'sha256_vectors: NOT COMPARED with {command[0]}, which is not there')
+
+
+def compare_with(command):
+    for message in (b'', RULED[:55], RULED[:56], RULED[:64], RULED[:119], RULED[:120], RULED, b'a' * 1000000):
+        said = subprocess.run(command, input=message, capture_output=True, check=True).stdout.decode().split()[0]
+        expect(digest(message), said, f'{len(message)} bytes by {command[0]}')
 
 
 def main():

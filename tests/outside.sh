@@ -8,5 +8,8 @@ if ! grep -q '^gateway:' crates.txt; then
 fi
 bash tests/archive
 cd tests/outside
+if ! openssl mac -cipher AES-128-CBC -macopt hexkey:00000000000000000000000000000000 CMAC </dev/null >/dev/null 2>&1; then
+  echo 'outside: NOT COMPARED with openssl, which has no command mac here'
+fi
 cargo test --offline --quiet --features gateway
 cargo run --offline --release --quiet --features gateway -- check

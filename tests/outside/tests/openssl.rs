@@ -1,4 +1,5 @@
-//! The authentication codes that OpenSSL computes are the same; where its command is not at hand there is nothing to compare.
+//! The authentication codes that OpenSSL computes are the same. Where its command is not at hand there is nothing to compare, and
+//! tests/outside.sh says so: what a test prints is not seen when it passes.
 
 use std::io::Write;
 use std::process::{Command, Stdio};
@@ -28,7 +29,6 @@ fn hex(bytes: &[u8]) -> String {
 #[test]
 fn openssl_agrees() {
     if openssl_cmac(&[0; 16], b"is it there?").is_none() {
-        println!("skipped: no openssl with the command mac");
         return;
     }
     let random = &mut Random::new(1);

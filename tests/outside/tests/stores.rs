@@ -182,6 +182,9 @@ fn a_trace_that_has_not_seen_all_is_refused() {
     let trace = trace_of(&stores);
     let cut = complaint(&calls, &trace[..trace.rfind(&format!("{ENDS:x}")).unwrap()]);
     assert!(cut.contains("this is no line of a trace"), "{cut}");
+    let begins = format!(" S {BEGINS:x},8\n");
+    let inside = complaint(&calls, &trace.replacen(&begins, &begins.repeat(2), 1));
+    assert!(inside.contains("a call begins inside another"), "{inside}");
     let last = complaint(&calls[..1], &trace);
     assert!(last.contains("more calls than were prepared"), "{last}");
     let early = complaint(&calls, &trace_of(&stores[..1]));

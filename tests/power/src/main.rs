@@ -6,31 +6,18 @@ use std::sync::atomic::{AtomicBool, AtomicU64, Ordering};
 use std::sync::Mutex;
 use std::time::Instant;
 
+use outside::words::Words;
+use power::command::{Command, DEFAULT_FAILURES, DEFAULT_IMAGES, USAGE};
 use power::failing::run_failures;
 use power::host::nothing_between;
 use power::killed::{keep_saving, report_kills};
 use power::scenario::run_scenario;
 use power::tally::{Tally, CRASHES, ERRORS, FAILURES, IMAGES};
 
-const USAGE: &str = "usage:
-  power crashes [--images N] [--seed S] [--threads T]   judge at least N crash images (default 20000)
-  power errors [--failures N] [--seed S]                let at least N stores and syncs fail (default 1000)
-  power killed [--rounds N] [--seed S]                  kill N processes that save (default 1000)
-  power saver IMAGE SEED                                save until killed: what `killed` starts
-Seeds count from S on (default 1).";
-
-const DEFAULT_IMAGES: u64 = 20_000;
-const DEFAULT_FAILURES: u64 = 1_000;
-const DEFAULT_ROUNDS: u64 = 1_000;
-
 fn main() -> ExitCode {
-    let arguments: Vec<String> = std::env::args().skip(1).collect();
-    let outcome = match arguments.first().map(String::as_str) {
-        Some("crashes") => crashes(&arguments[1..]),
-        Some("errors") => errors(&arguments[1..]),
-        Some("killed") => killed(&arguments[1..]),
-        Some("saver") => saver(&arguments[1..]),
-        _ => Err(USAGE.into()),
+    let outcome = match Command::from_words(Words::new(std::env::args().skip(1))) {
+        Ok(command) => run(command),
+        Err(message) => Err(format!("{message}\n{USAGE}")),
     };
     match outcome {
         Ok(()) => ExitCode::SUCCESS,
@@ -41,17 +28,16 @@ fn main() -> ExitCode {
     }
 }
 
-/// The number behind a flag such as `--seed`.
-fn number_flag(arguments: &[String], name: &str, default: u64) -> Result<u64, String> {
-    let Some(place) = arguments.iter().position(|argument| argument == name) else { return Ok(default) };
-    let value = arguments.get(place + 1).ok_or(format!("{name} needs a value"))?;
-    value.parse().map_err(|_| format!("{name} needs a number, not {value}"))
+fn run(command: Command) -> Result<(), String> {
+    match command {
+        Command::Crashes { images, seed, threads } => crashes(images, seed, threads),
+        Command::Errors { failures, seed } => errors(failures, seed),
+        Command::Killed { rounds, seed } => killed(rounds, seed),
+        Command::Saver { image, seed } => keep_saving(image, seed),
+    }
 }
 
-fn crashes(arguments: &[String]) -> Result<(), String> {
-    let images = number_flag(arguments, "--images", DEFAULT_IMAGES)?;
-    let seed = number_flag(arguments, "--seed", 1)?;
-    let threads = number_flag(arguments, "--threads", 1)?;
+fn crashes(images: u64, seed: u64, threads: u64) -> Result<(), String> {
     let again = |seed| format!("crashes --images 1 --seed {seed}");
     let run = Run {
         seed,
@@ -63,9 +49,7 @@ fn crashes(arguments: &[String]) -> Result<(), String> {
     all_met(&tally, &CRASHES, images >= DEFAULT_IMAGES)
 }
 
-fn errors(arguments: &[String]) -> Result<(), String> {
-    let failures = number_flag(arguments, "--failures", DEFAULT_FAILURES)?;
-    let seed = number_flag(arguments, "--seed", 1)?;
+fn errors(failures: u64, seed: u64) -> Result<(), String> {
     let again = |seed| format!("errors --failures 1 --seed {seed}");
     let run = Run {
         seed,
@@ -78,9 +62,7 @@ fn errors(arguments: &[String]) -> Result<(), String> {
 }
 
 /// The moments of a kill are not the seed's alone, so the same seed may meet others.
-fn killed(arguments: &[String]) -> Result<(), String> {
-    let rounds = number_flag(arguments, "--rounds", DEFAULT_ROUNDS)?;
-    let seed = number_flag(arguments, "--seed", 1)?;
+fn killed(rounds: u64, seed: u64) -> Result<(), String> {
     let seen = report_kills(rounds, seed).map_err(|complaint| {
         format!("{complaint}\nagain: cargo run --offline --release -- killed --rounds {rounds} --seed {seed}")
     })?;
@@ -93,11 +75,6 @@ fn killed(arguments: &[String]) -> Result<(), String> {
 
 /// So many kills fall inside a save now and then.
 const ROUNDS_THAT_MEET_ALL: u64 = 100;
-
-fn saver(arguments: &[String]) -> Result<(), String> {
-    let [path, seed] = arguments else { return Err(USAGE.into()) };
-    keep_saving(path.into(), seed.parse().map_err(|_| format!("{seed} is no seed"))?)
-}
 
 /// A long run must have met everything that it is there for.
 fn all_met(tally: &Tally, names: &[&str], long: bool) -> Result<(), String> {

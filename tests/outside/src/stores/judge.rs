@@ -32,6 +32,7 @@ pub fn judge(calls: &[Prepared], trace: &mut dyn BufRead) -> Result<Tally, Strin
     while trace.read_until(b'\n', &mut line).map_err(|error| error.to_string())? > 0 {
         match parse(&line)? {
             Some((BEGINS, _)) => {
+                require(stores.is_none(), || "a call begins inside another".into())?;
                 let prepared = calls.get(number).ok_or("the trace has more calls than were prepared")?;
                 stores = Some(vec![0; prepared.image.len()]);
             }

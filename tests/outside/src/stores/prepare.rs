@@ -96,7 +96,7 @@ fn forged(random: &mut Random, image: &[u8]) -> SessionBytes {
     session
 }
 
-/// The calls as bytes: for each the kind, three numbers, the session, and data and image with their lengths in front.
+/// The calls as bytes: for each the kind, two numbers, the session, and data and image with their lengths in front.
 pub fn to_bytes(prepared: &[Prepared]) -> Vec<u8> {
     let mut bytes = Vec::new();
     for Prepared { image, session, call } in prepared {

@@ -36,7 +36,7 @@ fn mark(address: u64) {
     unsafe { (address as *mut u64).write_volatile(1) }
 }
 
-/// Makes the calls; with a fault, each call that has an image of the least length also stores a byte of the header again, the same as it was.
+/// Makes the calls; with a fault, each call whose image reaches into the header also stores the header's first byte again, the same as it was.
 pub fn replay(calls: &[Prepared], fault: bool) -> Result<(), String> {
     map_region()?;
     for (number, prepared) in calls.iter().enumerate() {
