@@ -7,7 +7,7 @@ use crate::model::Version;
 use crate::rules::block_hash::block_hash;
 use crate::rules::compression::Digest;
 use crate::rules::descriptor::{
-    Level, DIFI_OPENING, DPFS_LEVELS, DPFS_OPENING, ENTRY, IVFC_LEVELS, IVFC_OPENING, SELECTOR,
+    Descriptor, Level, DIFI_OPENING, DPFS_LEVELS, DPFS_OPENING, ENTRY, IVFC_LEVELS, IVFC_OPENING, SELECTOR,
 };
 use crate::rules::extent::Extent;
 use crate::rules::header::{Header, Kind, PartitionPlace, DIFF_OPENING, DISA_OPENING, HEADER};
@@ -177,15 +177,33 @@ fn fill_partition(random: &mut Random, wanted: &Wanted, image: &mut [u8], partit
         None => choose_data(random, data_level.extent.size as usize),
     };
     let faults = Faults::choose(random, wanted);
+    let Hashed { levels, matches, master } = hash_upwards(random, descriptor, &faults, data.clone());
+    let [one, two, three, four] = matches;
+    let two = verified_below(descriptor, 1, &one, &two);
+    let three = verified_below(descriptor, 2, &two, &three);
+    let verified = verified_below(descriptor, 3, &three, &four);
+    lay_levels(random, image, partition, &levels);
+    Filled { version: Version { bytes: data, verified }, hash_verified: [one, two, three], master }
+}
 
-    // From level 4 upwards: the bytes of each level and, for each of its blocks, whether its entry matches.
-    let mut levels = vec![data.clone()];
-    let mut matches = Vec::new();
+/// The levels of a partition once they are hashed.
+struct Hashed {
+    /// The bytes of level 4 first, those of level 1 last.
+    levels: Vec<Vec<u8>>,
+    /// For each block of levels 1 to 4 whether its entry matches.
+    matches: [Vec<bool>; 4],
+    master: Vec<u8>,
+}
+
+/// Hashes from level 4 upwards, into entries of which some are wrong; spare entries are noise or zeros.
+fn hash_upwards(random: &mut Random, descriptor: &Descriptor, faults: &Faults, data: Vec<u8>) -> Hashed {
+    let mut levels = vec![data];
+    let mut matches = [(); 4].map(|()| Vec::new());
     for level in (1..=4).rev() {
         let bytes = levels.last().expect("level 4 is there");
         let (entries, good) =
             hash_blocks(random, bytes, descriptor.hash_level(level).log, faults.percent[level - 1], faults.entry);
-        matches.push(good);
+        matches[level - 1] = good;
         let size = if level == 1 { descriptor.master.size } else { descriptor.hash_level(level - 1).extent.size };
         let mut above = random.bytes(size as usize);
         if faults.blank {
@@ -195,18 +213,19 @@ fn fill_partition(random: &mut Random, wanted: &Wanted, image: &mut [u8], partit
         levels.push(above);
     }
     let master = levels.pop().expect("the master hash is there");
+    Hashed { levels, matches, master }
+}
 
-    // From level 1 downwards: a block is verified if its entry matches and the block with the entry is verified.
-    matches.reverse();
-    let [one, two, three, four]: [Vec<bool>; 4] = matches.try_into().expect("there are four levels");
-    let below = |above: &[bool], good: Vec<bool>, level: usize| -> Vec<bool> {
-        let entries_per_block = (1usize << descriptor.hash_level(level - 1).log) / ENTRY as usize;
-        good.iter().enumerate().map(|(block, good)| *good && above[block / entries_per_block]).collect()
-    };
-    let two = below(&one, two, 2);
-    let three = below(&two, three, 3);
-    let verified = below(&three, four, 4);
+/// A block is verified if its entry matches and the block of the level above that has the entry is verified.
+fn verified_below(descriptor: &Descriptor, above_level: usize, above: &[bool], matches: &[bool]) -> Vec<bool> {
+    let entries_per_block = (1usize << descriptor.hash_level(above_level).log) / ENTRY as usize;
+    matches.iter().enumerate().map(|(block, good)| *good && above[block / entries_per_block]).collect()
+}
 
+/// Lays the levels, level 4 first, into a DPFS level 3 that is noise elsewhere, and that into the live copies; an external level 4
+/// goes to its own place.
+fn lay_levels(random: &mut Random, image: &mut [u8], partition: &Partition, levels: &[Vec<u8>]) {
+    let descriptor = &partition.descriptor;
     let mut level3 = random.bytes(descriptor.level3.extent.size as usize);
     let area = partition.place.area.offset as usize;
     for (index, bytes) in levels.iter().enumerate() {
@@ -217,7 +236,6 @@ fn fill_partition(random: &mut Random, wanted: &Wanted, image: &mut [u8], partit
         }
     }
     scatter(image, partition, &level3);
-    Filled { version: Version { bytes: data, verified }, hash_verified: [one, two, three], master }
 }
 
 /// Mostly noise, now and then zeros.

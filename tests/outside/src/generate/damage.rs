@@ -1016,49 +1016,58 @@ fn damage_of(random: &mut Random, patient: &mut Patient, number: u64) -> bool {
 pub fn mutate(random: &mut Random, patient: &mut Patient) {
     let table = patient.opened.header.active_table();
     for _ in 0..random.between(1, 3) {
-        let (start, length) = random.pick(&[
-            (0, patient.image.len()),
-            (HEADER, 0x90),
-            (table.offset as usize, table.size as usize),
-            (patient.descriptor_position(), DIFI_SIZE as usize),
-            (patient.ivfc_position(), 0x78),
-            (patient.dpfs_position(), 0x50),
-        ]);
-        let place = start + random.below(length as u64) as usize;
-        if random.chance(50) {
-            patient.image[place] ^= random.between(1, 255) as u8;
-            continue;
-        }
-        let place = place.min(patient.image.len() - 8) & !3;
-        let old = number(&patient.image, place, 8);
-        let value = random.pick(&[
-            0,
-            1,
-            2,
-            old.wrapping_add(1),
-            old.wrapping_sub(1),
-            old.wrapping_add(32),
-            old.wrapping_sub(32),
-            old.wrapping_add(4),
-            old.wrapping_mul(2),
-            old / 2,
-            5,
-            16,
-            17,
-            0x200,
-            0x40,
-            0x800,
-            0x1000,
-            0x2000,
-            patient.image.len() as u64,
-            HALF_RANGE,
-            u64::MAX,
-        ]);
-        put(&mut patient.image, place, &value.to_le_bytes());
+        change_somewhere(random, patient, table);
     }
     if random.chance(85) {
         patient.rehash(table);
     }
+}
+
+/// A byte, or a field, of the whole image or of a part that is read often.
+fn change_somewhere(random: &mut Random, patient: &mut Patient, table: Extent) {
+    let (start, length) = random.pick(&[
+        (0, patient.image.len()),
+        (HEADER, 0x90),
+        (table.offset as usize, table.size as usize),
+        (patient.descriptor_position(), DIFI_SIZE as usize),
+        (patient.ivfc_position(), 0x78),
+        (patient.dpfs_position(), 0x50),
+    ]);
+    let place = start + random.below(length as u64) as usize;
+    if random.chance(50) {
+        patient.image[place] ^= random.between(1, 255) as u8;
+        return;
+    }
+    let place = place.min(patient.image.len() - 8) & !3;
+    let value = striking_value(random, number(&patient.image, place, 8), patient.image.len() as u64);
+    put(&mut patient.image, place, &value.to_le_bytes());
+}
+
+/// A value near the old one, or at the edge of some rule.
+fn striking_value(random: &mut Random, old: u64, image_length: u64) -> u64 {
+    random.pick(&[
+        0,
+        1,
+        2,
+        old.wrapping_add(1),
+        old.wrapping_sub(1),
+        old.wrapping_add(32),
+        old.wrapping_sub(32),
+        old.wrapping_add(4),
+        old.wrapping_mul(2),
+        old / 2,
+        5,
+        16,
+        17,
+        0x200,
+        0x40,
+        0x800,
+        0x1000,
+        0x2000,
+        image_length,
+        HALF_RANGE,
+        u64::MAX,
+    ])
 }
 
 #[cfg(test)]

@@ -141,33 +141,11 @@ fn draft_partition(random: &mut Random, gaps: &mut Gaps, wanted: &Wanted) -> Dra
         None => choose_master_entries(random),
     };
     let mut hash_levels = choose_hash_levels(random, wanted, master_entries);
-
-    // The levels inside DPFS level 3.
     let inside = if external { 3 } else { 4 };
-    let sizes: Vec<u128> = hash_levels[..inside].iter().map(|level| level.extent.size).collect();
-    let (extents, level3_size) = gaps.lay_out(random, 0, &sizes);
-    for (level, extent) in hash_levels.iter_mut().zip(extents) {
-        level.extent = extent;
-    }
-
-    // The three pairs and an external level 4 in the partition.
-    let bits = if wanted.full_bits {
-        let bits = full_bits(random);
-        let rest = bits.level3.0.checked_sub(level3_size).expect("level 4 is small enough");
-        hash_levels[..inside].iter_mut().for_each(|level| level.extent.offset += rest);
-        bits
-    } else {
-        spacious_bits(random, wanted, level3_size)
-    };
-    let BitLevels { level1: level1_size, level2: (level2_size, level2_log), level3: (level3_size, level3_log) } = bits;
-    let room = |log: u64| if wanted.full_bits { 1 << log } else { 0 };
-    let mut sizes = vec![2 * level1_size, 2 * (level2_size + room(level2_log)), 2 * (level3_size + room(level3_log))];
-    if external {
-        sizes.push(hash_levels[3].extent.size);
-    }
-    let (pairs, area_size) = gaps.lay_out(random, 0, &sizes);
+    let bits = place_inside_level3(random, gaps, wanted, &mut hash_levels[..inside]);
+    let external_size = external.then_some(hash_levels[3].extent.size);
+    let (pairs, area_size) = lay_out_area(random, gaps, wanted, &bits, external_size);
     let half = |index: usize, size: u128| Extent { offset: pairs[index].offset, size };
-
     // The pieces behind DIFI in the descriptor.
     let (pieces, descriptor_size) = gaps.lay_out(random, DIFI_SIZE, &[IVFC_SIZE, DPFS_SIZE, ENTRY * master_entries]);
     Draft {
@@ -178,13 +156,43 @@ fn draft_partition(random: &mut Random, gaps: &mut Gaps, wanted: &Wanted) -> Dra
             selector: if wanted.tight { 0 } else { random.below(2) },
             external: external.then(|| pairs[3].offset as u64),
             hash_levels,
-            level1: half(0, level1_size),
-            level2: Level { extent: half(1, level2_size), log: level2_log },
-            level3: Level { extent: half(2, level3_size), log: level3_log },
+            level1: half(0, bits.level1),
+            level2: Level { extent: half(1, bits.level2.0), log: bits.level2.1 },
+            level3: Level { extent: half(2, bits.level3.0), log: bits.level3.1 },
         },
         descriptor_size,
         area_size,
     }
+}
+
+/// Places the IVFC levels that are inside DPFS level 3, and chooses DPFS levels around them.
+fn place_inside_level3(random: &mut Random, gaps: &mut Gaps, wanted: &Wanted, inside: &mut [Level]) -> BitLevels {
+    let sizes: Vec<u128> = inside.iter().map(|level| level.extent.size).collect();
+    let (extents, level3_size) = gaps.lay_out(random, 0, &sizes);
+    inside.iter_mut().zip(extents).for_each(|(level, extent)| level.extent = extent);
+    if !wanted.full_bits {
+        return spacious_bits(random, wanted, level3_size);
+    }
+    let bits = full_bits(random);
+    let rest = bits.level3.0.checked_sub(level3_size).expect("level 4 is small enough");
+    inside.iter_mut().for_each(|level| level.extent.offset += rest);
+    bits
+}
+
+/// Lays out the three pairs and an external level 4 in the partition: their places, and the partition's size.
+fn lay_out_area(
+    random: &mut Random,
+    gaps: &mut Gaps,
+    wanted: &Wanted,
+    bits: &BitLevels,
+    external_size: Option<u128>,
+) -> (Vec<Extent>, u128) {
+    // Where no bit is to spare there is room for one block more, so that one too many is refused for its bit and not for its place.
+    let room = |log: u64| if wanted.full_bits { 1 << log } else { 0 };
+    let pair = |(size, log): (u128, u64)| 2 * (size + room(log));
+    let mut sizes = vec![2 * bits.level1, pair(bits.level2), pair(bits.level3)];
+    sizes.extend(external_size);
+    gaps.lay_out(random, 0, &sizes)
 }
 
 /// The sizes of DPFS levels 1 to 3, and the logarithms of the last two.

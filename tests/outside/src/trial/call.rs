@@ -14,7 +14,8 @@ use crate::rules::session::SessionBytes;
 use crate::rules::signing::{SignerNumbers, LONGEST_BLOCK};
 use crate::subject::Subject;
 
-/// A row for faults has room for so many records.
+/// A call with what it is handed besides the image and the session. `length` is that of the buffer that it fills, `room` says how many records
+/// the row for faults holds.
 #[derive(Clone, Debug)]
 pub enum Call {
     Open,
@@ -237,13 +238,7 @@ impl Call {
             3 => Call::Verified { partition, block: choose_block(random, data_size.div_ceil(block_size)) },
             4 => Call::CountVerified { partition },
             BEGIN => Call::Begin,
-            WRITE => {
-                let (place, length) = choose_written(random, data_size, block_size);
-                let data = random.bytes(length);
-                let rewritten =
-                    if random.chance(10) { bytes_there(image, opened, partition, place, length) } else { None };
-                Call::Write { partition, place, data: rewritten.unwrap_or(data) }
-            }
+            WRITE => choose_write(random, image, opened, partition),
             COMMIT => Call::Commit,
             8 => Call::Abandon,
             9 => Call::SigningBlock { signer: choose_signer(random) },
@@ -256,6 +251,15 @@ impl Call {
             _ => Call::Names(NamesCall::choose(random, &[])),
         }
     }
+}
+
+/// Writes noise, now and then the bytes that are there already.
+fn choose_write(random: &mut Random, image: &[u8], opened: Option<&Opened>, partition: u64) -> Call {
+    let (data_size, block_size) = data_shape(opened, partition);
+    let (place, length) = choose_written(random, data_size, block_size);
+    let data = random.bytes(length);
+    let rewritten = if random.chance(10) { bytes_there(image, opened, partition, place, length) } else { None };
+    Call::Write { partition, place, data: rewritten.unwrap_or(data) }
 }
 
 fn as_array<const LENGTH: usize>(buffer: &mut [u8]) -> &mut [u8; LENGTH] {

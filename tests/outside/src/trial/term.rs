@@ -189,20 +189,34 @@ impl<'a> Run<'a> {
 
     /// What a call must answer, as far as the book says it.
     fn expected_answer(&self, call: &Call) -> Option<u64> {
-        let refused = |refusal: Refusal| Some(answer_code(Err(refusal)));
+        match self.refused_for_session(call) {
+            Some(refusal) => Some(answer_code(Err(refusal))),
+            None => self.answer_in_session(call),
+        }
+    }
+
+    /// The refusal of a call that the session's state does not allow, or of a signer that is for the other kind.
+    fn refused_for_session(&self, call: &Call) -> Option<Refusal> {
         // A revert's too: no session is forged here, so the header that comes back is of the present kind.
         let fits = |signing_key: &SigningKey| kind_of(signing_key.signer) == self.opened.header.kind;
         match call {
-            Call::Begin | Call::Revert | Call::RevertSigned { .. } if self.begun() => refused(Refusal::WrongSession),
+            Call::Begin | Call::Revert | Call::RevertSigned { .. } if self.begun() => Some(Refusal::WrongSession),
             Call::Abandon | Call::Commit | Call::CommitSigned { .. } | Call::Write { .. } | Call::ReadStaged { .. }
                 if !self.begun() =>
             {
-                refused(Refusal::WrongSession)
+                Some(Refusal::WrongSession)
             }
-            Call::Revert | Call::RevertSigned { .. } if !self.book.remembers() => refused(Refusal::NoWayBack),
+            Call::Revert | Call::RevertSigned { .. } if !self.book.remembers() => Some(Refusal::NoWayBack),
             Call::CommitSigned { signing_key } | Call::RevertSigned { signing_key } if !fits(signing_key) => {
-                refused(Refusal::WrongSigner)
+                Some(Refusal::WrongSigner)
             }
+            _ => None,
+        }
+    }
+
+    /// What a call must answer that the session allows.
+    fn answer_in_session(&self, call: &Call) -> Option<u64> {
+        match call {
             Call::Open
             | Call::Begin
             | Call::Abandon
