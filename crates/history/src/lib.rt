@@ -1,10 +1,10 @@
 // Lists of calls: the model that they follow, and the theorem that they do. Definitions and proofs; the functions ask for the theorems.
 //
-// Wrong models and claims that each theorem excludes, tried as edits in must-fail/. There is no program here to edit: a wrong program of a call is
-// refused in the crates below already, and so is one that looks at the front (layout's front_for_header, signatures' signature_further_on).
+// Wrong models that each theorem excludes, tried as edits in must-fail/. There is no program here to edit: a wrong program of a call is refused in the
+// crates below already, at the contract on which the theorem rests (docs/CLAIMS.md, "What each public contract rules out").
 // - history: begin_stages_nothing, commit_lands_nothing, commit_keeps_staged, abandon_keeps_staged, staged_read_while_idle,
 //   untouched_block_refused, write_to_any_partition;
-// - crash: every_byte_free, dropped_stores_nothing;
+// - crash: dropped_stores_nothing;
 // - landing: first_value_wins, write_marks_nothing;
 // - a partition of either kind: write_in_place_loosens_nothing, dropped_loosens_nothing;
 // - step back: signature_not_renewed;
