@@ -1,5 +1,7 @@
 // Prints encryptions and codes, one to a line. What it must print is in ../stdout, which tests/make_aes_vectors.py makes with other implementations;
 // the comments there say where each input is from.
+#![tactic(auto)]
+
 ghost use Rattle.std.specs.Prelude.{◌≡◌, length};
 
 use aes::cipher::encrypt;

@@ -1,6 +1,8 @@
 // AES-CMAC (RFC 4493): the code of a message of any length, under a key of 16 bytes.
 //
 // No contract speaks of time, and the time of a call may depend on the key and on the message (see the crate aes).
+#![tactic(auto)]
+
 ghost use Rattle.std.specs.Prelude.{◌≡◌, ◌++◌, ◌+◌, ◌-◌, ◌*◌, ◌/◌, ◌≤◌, ◌<◌, max, eqb, length, replicate};
 ghost use Rattle.cmac.specs.Cmac as Spec;
 

@@ -1,4 +1,6 @@
 // What a commit, and a revert, stores: the header, whole, and with it the signature where it is signed.
+#![tactic(auto)]
+
 ghost use Rattle.std.specs.Prelude.{◌≡◌, ◌≤◌, length};
 ghost use Rattle.layout.specs.Headers.{header_bytes};
 ghost use Rattle.layout.specs.Guarantees.{Guarantees};

@@ -1,5 +1,7 @@
 // Describes the image on standard input: its kind, its partitions, its active table, and of each partition the size of level 4, its blocks and
 // how many of them are verified ("stands" in the paper's words, which the output keeps). At most 65,536 bytes are taken.
+#![tactic(auto)]
+
 use container::reading::{count_verified, open};
 use layout::refusals::number_of;
 use layout::{Container, Kind, Opened, Partition, Refusal, Second};
@@ -10,7 +12,7 @@ use steps::Count;
 const LONGEST_INPUT: usize = 65_536;
 
 // What came from standard input: so many bytes, or a read failed.
-#[derive(Drop)]
+#[derive(Clone, Copy)]
 enum Input {
     Bytes(usize),
     Failed,

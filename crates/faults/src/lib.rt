@@ -1,4 +1,6 @@
 // The fault list: every block of levels 1 to 4 that is not verified in the committed view.
+#![tactic(auto)]
+
 ghost use Rattle.faults.specs.Laws.{FaultLaws};
 
 // The last of the levels.
@@ -11,7 +13,7 @@ mod searching;
 
 // A block that is not verified: its partition (0 is A and 1 is B), its level and its number.
 #[repr(C)]
-#[derive(Drop)]
+#[derive(Clone, Copy)]
 pub struct Fault {
     pub partition: u64,
     pub level: u64,
@@ -19,7 +21,7 @@ pub struct Fault {
 }
 
 // Where a search goes on: at this block, which has this number among all.
-#[derive(Drop)]
+#[derive(Clone, Copy)]
 pub struct Place {
     pub partition: u64,
     pub level: u64,
@@ -28,7 +30,7 @@ pub struct Place {
 }
 
 // The next fault, if there is any, and where the search goes on after it.
-#[derive(Drop)]
+#[derive(Clone, Copy)]
 pub struct Found {
     pub any: bool,
     pub fault: Fault,
@@ -37,7 +39,7 @@ pub struct Found {
 
 // What is in hand between two records: whether there is a fault in hand and a record for it, whether there is a fault, the record's number, the
 // fault, and where the search goes on.
-#[derive(Drop)]
+#[derive(Clone, Copy)]
 pub struct Turn {
     pub more: bool,
     pub found: bool,

@@ -1,5 +1,7 @@
 // The calls for programs in C and other languages, as include/teplovist.h describes them: numbers and bytes go in and out. None asks
 // anything of its caller but pointers that are good.
+#![tactic(auto)]
+
 ghost use Rattle.std.specs.Prelude.{◌≡◌};
 ghost use Rattle.layout.specs.Refusals.{opened_says, outcome_says};
 ghost use Rattle.steps.specs.Answers.{verdict_says, count_says, ending_says};

@@ -1,5 +1,7 @@
 // Looks up every bit of a short and of a long half, each on a slice that ends with the byte which holds it, and prints a mark of all of them. What it
 // must print is in ../stdout, which tests/make_half_bits.py makes from the paper's words: bit 31 - n mod 32 of the 32-bit word n / 32.
+#![tactic(auto)]
+
 ghost use Rattle.std.specs.Prelude.{◌*◌, ◌%◌, ◌<◌, ◌≤◌, ◌≡◌, length};
 
 use dpfs::bits::bit_in;

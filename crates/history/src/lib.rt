@@ -9,6 +9,8 @@
 // - a partition of either kind: write_in_place_loosens_nothing, dropped_loosens_nothing;
 // - step back: signature_not_renewed;
 // - term: crash_keeps_session, commit_appends_nothing, revert_removes_nothing, version_forgets_verified.
+#![tactic(auto)]
+
 ghost use Rattle.history.specs.External.{EitherTheorem};
 ghost use Rattle.history.specs.External.{InPlaceTheorem};
 ghost use Rattle.history.specs.Former.{Former};

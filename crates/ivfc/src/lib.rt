@@ -1,4 +1,6 @@
 // The hash tree of a partition: which blocks are verified, and the bytes of a level.
+#![tactic(auto)]
+
 use dpfs::Tree;
 use number::{Level, Range};
 
@@ -12,7 +14,7 @@ pub mod verifying;
 
 // A view of a partition. `tree` is its DPFS, `half` the half of DPFS level 1 that the view goes by, `master` where its master hash stands
 // in the image. Levels 1 to 4 lie in DPFS level 3, but for an external level 4, which starts at `outside` of the image.
-#[derive(Drop)]
+#[derive(Clone, Copy)]
 pub struct View {
     pub tree: Tree,
     pub half: bool,
@@ -26,7 +28,7 @@ pub struct View {
 }
 
 // The digests of blocks in a row: so many of 32 bytes each, at the front of `bytes`.
-#[derive(Drop)]
+#[derive(Clone, Copy)]
 pub struct Digests {
     pub count: u64,
     pub bytes: [u8; 256],
@@ -34,7 +36,7 @@ pub struct Digests {
 
 // How blocks in a row compare with their entries: how many were hashed, how many match before the first that does not, how many match, and
 // which, at the front of `each`.
-#[derive(Drop)]
+#[derive(Clone, Copy)]
 pub struct Compared {
     pub hashed: u64,
     pub before: u64,
@@ -43,7 +45,7 @@ pub struct Compared {
 }
 
 // What is remembered of a level: its blocks from `first` on are verified up to `end`, which is not, or is past the last that is asked for.
-#[derive(Drop)]
+#[derive(Clone, Copy)]
 pub struct Seen {
     pub known: bool,
     pub first: u64,
@@ -51,7 +53,7 @@ pub struct Seen {
 }
 
 // What is remembered of each level, so that no hash block is hashed again for the next blocks below it.
-#[derive(Drop)]
+#[derive(Clone, Copy)]
 pub struct Memory {
     pub level1: Seen,
     pub level2: Seen,
@@ -60,14 +62,14 @@ pub struct Memory {
 }
 
 // Where the verified blocks end, with what was learnt on the way.
-#[derive(Drop)]
+#[derive(Clone, Copy)]
 pub struct Judged {
     pub end: u64,
     pub memory: Memory,
 }
 
 // Whether each of two blocks is verified.
-#[derive(Drop)]
+#[derive(Clone, Copy)]
 pub struct Two {
     pub first: bool,
     pub second: bool,

@@ -2,6 +2,8 @@
 //
 // The messages are the lanes. Item t of lane l stands at place t * 8 + l of a flat array, so that one loop over the places does the work of
 // all lanes, and the compiler does several places at once.
+#![tactic(auto)]
+
 ghost use Rattle.std.specs.Prelude.{◌≡◌, ◌*◌, ◌%◌, ◌^◌, ◌<◌, length};
 ghost use Rattle.lanes.specs.Digests.{digests};
 

@@ -1,4 +1,6 @@
 // Opening a container image: its header, its two tables, and the descriptor of each partition, as the image's bytes say them.
+#![tactic(auto)]
+
 use number::{Level, Range};
 
 // Where the header starts, and where the first 0x200 bytes end, with the header's end.
@@ -17,7 +19,7 @@ pub mod refusals;
 pub mod tables;
 
 // Why a call is refused, in the order of their numbers (refusals::number_of).
-#[derive(Drop)]
+#[derive(Clone, Copy)]
 pub enum Refusal {
     // The image's length.
     Length,
@@ -60,26 +62,26 @@ pub enum Refusal {
 }
 
 // What a call that needs nothing but a yes answers.
-#[derive(Drop)]
+#[derive(Clone, Copy)]
 pub enum Outcome {
     Accepted,
     Refused(Refusal),
 }
 
-#[derive(Drop)]
+#[derive(Clone, Copy)]
 pub enum Kind {
     Disa,
     Diff,
 }
 
 // A partition's fields in the header: its descriptor within the table, and the partition within the image.
-#[derive(Drop)]
+#[derive(Clone, Copy)]
 pub struct Slot {
     pub descriptor: Range,
     pub partition: Range,
 }
 
-#[derive(Drop)]
+#[derive(Clone, Copy)]
 pub struct Header {
     pub kind: Kind,
     pub count: u32,
@@ -91,7 +93,7 @@ pub struct Header {
 }
 
 // The pieces of a descriptor, and what else DIFI says: whether level 4 is external, the selector, and where an external level 4 is.
-#[derive(Drop)]
+#[derive(Clone, Copy)]
 pub struct Difi {
     pub ivfc: Range,
     pub dpfs: Range,
@@ -102,7 +104,7 @@ pub struct Difi {
 }
 
 // The hash levels 1 to 3 and the data, level 4, within DPFS level 3; of an external level 4 the offset is not read.
-#[derive(Drop)]
+#[derive(Clone, Copy)]
 pub struct Ivfc {
     pub level1: Level,
     pub level2: Level,
@@ -111,14 +113,14 @@ pub struct Ivfc {
 }
 
 // The levels of halves; each size is that of one half. Level 1's logarithm is not read.
-#[derive(Drop)]
+#[derive(Clone, Copy)]
 pub struct Dpfs {
     pub level1: Range,
     pub level2: Level,
     pub level3: Level,
 }
 
-#[derive(Drop)]
+#[derive(Clone, Copy)]
 pub struct Partition {
     pub difi: Difi,
     pub ivfc: Ivfc,
@@ -126,35 +128,35 @@ pub struct Partition {
 }
 
 // Partition B, where there is one.
-#[derive(Drop)]
+#[derive(Clone, Copy)]
 pub enum Second {
     Missing,
     There(Partition),
 }
 
 // Every field that opening reads.
-#[derive(Drop)]
+#[derive(Clone, Copy)]
 pub struct Container {
     pub header: Header,
     pub a: Partition,
     pub b: Second,
 }
 
-#[derive(Drop)]
+#[derive(Clone, Copy)]
 pub enum Opened {
     Valid(Container),
     Refused(Refusal),
 }
 
 // A header after checks 2 to 4.
-#[derive(Drop)]
+#[derive(Clone, Copy)]
 pub enum JudgedHeader {
     GoodHeader(Header),
     BadHeader(Refusal),
 }
 
 // A descriptor after checks 6 and 7.
-#[derive(Drop)]
+#[derive(Clone, Copy)]
 pub enum JudgedPartition {
     GoodPartition(Partition),
     BadPartition(Refusal),

@@ -1,5 +1,7 @@
 // Opens each image of standard input and prints a line for it: the refusal's number, or 0 with the kind, the count and the flag. Before
 // each image come the four bytes of its length; a length that the input does not have, such as the last, ends it.
+#![tactic(auto)]
+
 use layout::opening::open;
 use layout::refusals::number_of;
 use layout::{Header, Kind, Opened};

@@ -1,4 +1,6 @@
 // Numbers an image must keep to, and the rules on them: each on plain numbers, whatever it is that has them.
+#![tactic(auto)]
+
 ghost use Rattle.std.specs.Prelude.{◌≡◌, ◌+◌, ◌<◌, ◌^◌};
 ghost use Rattle.limits.specs.Limits.{length_allowed, count_allowed, flag_allowed, zeros, table_allowed, size_allowed, master_allowed, log_at, level_allowed};
 

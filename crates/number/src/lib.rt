@@ -1,4 +1,5 @@
 // Numbers as the format has them: little-endian fields, ranges of bytes, and levels cut into blocks.
+#![tactic(auto)]
 
 pub mod blocks;
 pub mod fields;
@@ -7,14 +8,14 @@ pub mod ranges;
 pub mod runs;
 
 // A range of bytes: where it starts, and how many it has.
-#[derive(Drop)]
+#[derive(Clone, Copy)]
 pub struct Range {
     pub offset: u64,
     pub size: u64,
 }
 
 // A level: where it starts, its size in bytes, and the logarithm of its block size.
-#[derive(Drop)]
+#[derive(Clone, Copy)]
 pub struct Level {
     pub offset: u64,
     pub size: u64,

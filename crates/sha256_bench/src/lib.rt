@@ -1,4 +1,6 @@
 // The digest of a slice for programs in Rust and C that measure it (bench/). No part of the library: gateway exports that.
+#![tactic(auto)]
+
 ghost use Rattle.std.specs.Prelude.{◌≡◌};
 ghost use Rattle.sha256.specs.Sha256 as Spec;
 

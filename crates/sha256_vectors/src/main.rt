@@ -1,5 +1,7 @@
 // Prints the digests of known messages, one to a line. What it must print is in ../stdout, which tests/make_sha256_vectors.py makes with
 // another implementation; the comments there say where each message is from.
+#![tactic(auto)]
+
 ghost use Rattle.std.specs.Prelude.{◌≡◌, ◌+◌, ◌<◌, ◌≤◌, length};
 ghost use Rattle.sha256.specs.Sha256.{sha256 as SHA-256};
 

@@ -1,4 +1,6 @@
 // The signature of an image (02, W5), and the opening that checks it.
+#![tactic(auto)]
+
 ghost use Rattle.std.specs.Prelude.{◌≡◌, ◌≤◌, length};
 ghost use Rattle.number.specs.Ranges.{part};
 ghost use Rattle.number.specs.Bytes.{same_bytes};

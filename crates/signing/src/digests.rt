@@ -7,14 +7,14 @@ use layout::{Outcome, Refusal};
 use sha256::running::{Running, fits, update};
 
 // What a feeding leaves.
-#[derive(Drop)]
+#[derive(Clone, Copy)]
 pub struct Fed {
     pub outcome: Outcome,
     pub running: Running,
 }
 
 // The digest of what was fed.
-#[derive(Drop)]
+#[derive(Clone, Copy)]
 pub struct Finished {
     pub outcome: Outcome,
     pub digest: [u8; 32],

@@ -1,4 +1,6 @@
 // The blocks whose SHA-256 is signed (document 000, "AES CMAC"), and a digest that its holder lends and that is brought forward in place.
+#![tactic(auto)]
+
 use layout::Refusal;
 
 pub mod answers;
@@ -7,14 +9,14 @@ pub mod digests;
 pub mod shapes;
 
 // Which file of an extdata image is signed: Quota.dat, or a device file by the ID in its name and the ID in its folder's name.
-#[derive(Drop)]
+#[derive(Clone, Copy)]
 pub enum ExtdataFile {
     Quota,
     Device(u32, u32),
 }
 
 // What an image is signed as: one variant for each type of block, with its fields.
-#[derive(Drop)]
+#[derive(Clone, Copy)]
 pub enum Signer {
     // CTR-NOR0: a game card's save.
     Card,
@@ -29,7 +31,7 @@ pub enum Signer {
 }
 
 // A field of a block: how many bytes it has, and its number.
-#[derive(Drop)]
+#[derive(Clone, Copy)]
 pub struct Field {
     pub size: u64,
     pub value: u64,
@@ -37,7 +39,7 @@ pub struct Field {
 
 // What a type's block is made of: its eight letters, its fields (of size 0 where there are fewer than four), and whether its tail is the hash
 // of the inner block, or the header itself.
-#[derive(Drop)]
+#[derive(Clone, Copy)]
 pub struct Shape {
     pub letters: [u8; 8],
     pub fields: [Field; 4],
@@ -45,14 +47,14 @@ pub struct Shape {
 }
 
 // A block at the front of the bytes, which are zero after it.
-#[derive(Drop)]
+#[derive(Clone, Copy)]
 pub struct Block {
     pub bytes: [u8; 284],
     pub length: u64,
 }
 
 // How long the block is that was built, or why none was.
-#[derive(Drop)]
+#[derive(Clone, Copy)]
 pub enum Built {
     Bytes(u64),
     Refused(Refusal),

@@ -1,4 +1,6 @@
 // What the public calls are made of: their answers, a session's value, what is judged, and the stores of begin and write.
+#![tactic(auto)]
+
 use layout::Refusal;
 
 pub mod answers;
@@ -11,7 +13,7 @@ pub mod viewing;
 pub mod writing;
 
 // Whether a block is verified.
-#[derive(Drop)]
+#[derive(Clone, Copy)]
 pub enum Verdict {
     Yes,
     No,
@@ -19,7 +21,7 @@ pub enum Verdict {
 }
 
 // How many blocks are verified, or are faults.
-#[derive(Drop)]
+#[derive(Clone, Copy)]
 pub enum Count {
     Blocks(u64),
     Refused(Refusal),
@@ -27,7 +29,7 @@ pub enum Count {
 
 // How a call that changes an image ends. A refused call has changed nothing. One that would hold a digest of all zeros is dropped, which is 17: a write
 // ends its session then, and the making of a blank image leaves zeros.
-#[derive(Drop)]
+#[derive(Clone, Copy)]
 pub enum Ending {
     Accepted,
     Refused(Refusal),
@@ -36,7 +38,7 @@ pub enum Ending {
 
 // A session. Begun, it remembers the 256 header bytes in `header`. Idle, it remembers those before and after the last commit in it, in `header` and
 // `later`; where there is nothing to remember both are zero, and no image that opens has such a header.
-#[derive(Drop)]
+#[derive(Clone, Copy)]
 pub struct Session {
     pub begun: bool,
     pub header: [u8; 256],
@@ -44,7 +46,7 @@ pub struct Session {
 }
 
 // What a call on a session answers, and the session after it.
-#[derive(Drop)]
+#[derive(Clone, Copy)]
 pub struct Step {
     pub outcome: Ending,
     pub session: Session,

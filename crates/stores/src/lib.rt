@@ -1,3 +1,4 @@
 // The stores of begin and write.
+#![tactic(auto)]
 
 pub mod staging;

@@ -1,5 +1,7 @@
 // The stores of a write: hash blocks above it that are not verified are emptied, then come the data, then the entries above it, level by level
 // up to the master hash.
+#![tactic(auto)]
+
 use clearing::clear_for;
 use dpfs::Space;
 use ivfc::gathering::level_of;

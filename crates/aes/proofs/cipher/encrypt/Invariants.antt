@@ -1,0 +1,13 @@
+-- `encrypt`: after i turns, what `Reached` says of i rounds.
+use mathlib.Core.Path.{◌≡◌}
+use Prim.Native.Nat.{◌≤◌, ◌-◌}
+use native.Mathlib.Omega.{arith}
+use Rattle.aes.proofs.Rounds.{Reached, reached_none, reached_more, reached_end}
+use borrow.Author.Rules.{rules}
+use Rattle.aes.proofs.cipher.encrypt.Given as goal
+
+abbrev pub invariant-loop-i : goal.invariant-loop-i
+invariant-loop-i l = (l.i ≤ 9) × Reached l.initial.k l.initial.s l.i l.s l.k l.rcon
+
+abbrev pub decreases-loop-i : goal.decreases-loop-i
+decreases-loop-i l = 9 - l.i

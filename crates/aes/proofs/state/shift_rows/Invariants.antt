@@ -1,0 +1,14 @@
+-- `shift_rows`: after i turns the first i bytes are shifted.
+use Prim.Native.Nat.{◌-◌}
+use native.Mathlib.Omega.{arith}
+use Rattle.aes.specs.Aes.{ShiftRows}
+use Rattle.aes.proofs.Built.{Built, built_none, built_more, built_block}
+use Rattle.aes.proofs.Places.{shifted_byte, shifted_byte_lem}
+use borrow.Author.Rules.{rules}
+use Rattle.aes.proofs.state.shift_rows.Given as goal
+
+abbrev pub invariant-loop-i : goal.invariant-loop-i
+invariant-loop-i l = Built (shifted_byte l.s) l.i l.out
+
+abbrev pub decreases-loop-i : goal.decreases-loop-i
+decreases-loop-i l = 16 - l.i

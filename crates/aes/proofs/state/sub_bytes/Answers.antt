@@ -1,0 +1,21 @@
+use mathlib.Core.Path.{◌∙◌}
+use Prim.Native.Nat.{◌-◌}
+use native.Mathlib.Omega.{arith}
+use Rattle.aes.specs.Aes.{SubBytes}
+use Rattle.aes.proofs.Built.{Built, built_none, built_more, built_block}
+use Rattle.aes.proofs.Places.{sub_byte, sub_byte_lem}
+use borrow.Author.Rules.{rules}
+use Rattle.aes.proofs.state.sub_bytes.Goals as goal
+
+pub loop-i-init : goal.loop-i-init
+loop-i-init c = built_none _ _ (search rules)
+
+pub loop-i-preserved : goal.loop-i-preserved
+loop-i-preserved c =
+    let l = c.loop-i in
+    let s = c.args.s in
+    built_more _ l.i l.out _ (omega arith) (c.substitute.ensures ∙ sub_byte_lem s l.i) l.invariant
+
+pub returns : goal.returns
+unfolding SubBytes
+returns c = built_block _ c.loop-i.i c.loop-i.out (omega arith) c.loop-i.invariant

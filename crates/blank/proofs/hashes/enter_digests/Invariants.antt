@@ -1,0 +1,25 @@
+-- `enter_digests`: the invariant: the digests so far are stored and judged, and the last one is at hand. Assumes nothing.
+use Prim.Native.Nat.{ℕ, ◌≤◌, ◌<◌, ◌-◌}
+use mathlib.Core.Path.{◌≡◌, refl, ap, ◌∙◌}
+use native.Mathlib.Omega.{arith}
+use borrow.Author.Rules.{rules}
+use lib.ListN.{length}
+use lib.Seq.{sets, length-sets}
+use Rattle.number.specs.Blocks.{blocks}
+use Rattle.sha256.specs.Sha256.{sha256}
+use Rattle.ivfc.specs.Blocks.{block}
+use Rattle.ivfc.specs.Rows.{digests}
+use Rattle.blank.specs.Rules.{bytes_from}
+use Rattle.blank.specs.Making.{some_zero}
+use Rattle.blank.proofs.HashLaws.{entry_fits, own, last_now, next_last, enter_step, zero_step}
+use Rattle.blank.proofs.hashes.enter_digests.Given as goal
+
+abbrev pub invariant-loop-b : goal.invariant-loop-b
+invariant-loop-b l =
+    (l.b ≤ blocks l.l) × (length l.image ≡ length l.initial.image)
+    × (l.image ≡ sets l.initial.image l.to (digests l.l (bytes_from l.initial.image l.from) 0 l.b))
+    × (l.zero ≡ some_zero l.l (bytes_from l.initial.image l.from) l.b)
+    × (1 ≤ l.b → l.d ≡ sha256 (block l.l (bytes_from l.initial.image l.from) (l.b - 1)))
+
+abbrev pub decreases-loop-b : goal.decreases-loop-b
+decreases-loop-b l = blocks l.l - l.b

@@ -1,0 +1,52 @@
+use Prim.Native.Nat.{◌≤◌, ◌-◌}
+use mathlib.Core.Path.{◌≡◌, refl, ap, ◌∙◌}
+use native.Mathlib.Omega.{arith}
+use borrow.Author.Rules.{rules}
+use lib.ListN.{length}
+use lib.Seq.{sets, length-sets}
+use Rattle.ivfc.specs.Rows.{digests}
+use Rattle.blank.specs.Sizes.{ivfc4}
+use Rattle.blank.specs.Image.{byte4}
+use Rattle.blank.proofs.SizeLaws.{sized}
+use Rattle.blank.proofs.HashLaws.{entry_fits, copies_step, copies_end, zeros_zero}
+use Rattle.blank.proofs.hashes.enter_zeros.Goals as goal
+
+pub loop-k-init : goal.loop-k-init
+unfolding digests
+loop-k-init c = (omega arith, refl, refl)
+
+pub overflow_mul-k : goal.overflow_mul-k
+overflow_mul-k c = omega arith
+
+pub overflow_add-to : goal.overflow_add-to
+overflow_add-to c = omega arith
+
+pub copy_into-requires : goal.copy_into-requires
+copy_into-requires c =
+    let l = c.loop-k in
+    entry_fits l.image c.args.image.now _ _ c.args.to c.args.n l.k l.invariant.1 c.requires.0 c.loop-k-test.true c.digest-d.ensures
+
+pub overflow_add-k : goal.overflow_add-k
+overflow_add-k c = omega arith
+
+pub loop-k-smaller : goal.loop-k-smaller
+loop-k-smaller c = omega arith
+
+pub loop-k-preserved : goal.loop-k-preserved
+loop-k-preserved c =
+    let a = c.args in
+    let l = c.loop-k in
+    let t = c.loop-k-test.true in
+    let e = c.copy_into.ensures in (
+      omega (arith, t),
+      ap length e ∙ (simp length-sets) ∙ l.invariant.1,
+      copies_step a.image.now a.n a.to l.image _ _ l.k t l.invariant.2 c.digest-d.ensures e,
+    )
+
+pub shape_of-image : goal.shape_of-image
+shape_of-image c = c.loop-k.invariant.1
+
+pub returns : goal.returns
+returns c =
+    let l = c.loop-k in
+    let w = sized c.args.n c.requires.1 c.requires.2 in record { image_after = copies_end c.args.image.now c.args.n c.args.to l.image l.k w (omega (arith, l.invariant.0, c.loop-k-test.false)) l.invariant.2; value = zeros_zero c.args.n _ _ c.requires.1 w c.digest-d.ensures c.zero_entry.ensures }

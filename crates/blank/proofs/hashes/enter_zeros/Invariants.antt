@@ -1,0 +1,20 @@
+-- `enter_zeros`: the invariant: so many copies are stored, which are the digests of so many blocks. Assumes nothing.
+use Prim.Native.Nat.{◌≤◌, ◌-◌}
+use mathlib.Core.Path.{◌≡◌, refl, ap, ◌∙◌}
+use native.Mathlib.Omega.{arith}
+use borrow.Author.Rules.{rules}
+use lib.ListN.{length}
+use lib.Seq.{sets, length-sets}
+use Rattle.ivfc.specs.Rows.{digests}
+use Rattle.blank.specs.Sizes.{ivfc4}
+use Rattle.blank.specs.Image.{byte4}
+use Rattle.blank.proofs.SizeLaws.{sized}
+use Rattle.blank.proofs.HashLaws.{entry_fits, copies_step, copies_end, zeros_zero}
+use Rattle.blank.proofs.hashes.enter_zeros.Given as goal
+
+abbrev pub invariant-loop-k : goal.invariant-loop-k
+invariant-loop-k l =
+    (l.k ≤ l.n) × (length l.image ≡ length l.initial.image) × (l.image ≡ sets l.initial.image l.to (digests (ivfc4 l.n) byte4 0 l.k))
+
+abbrev pub decreases-loop-k : goal.decreases-loop-k
+decreases-loop-k l = l.n - l.k

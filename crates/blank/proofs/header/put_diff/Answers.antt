@@ -1,0 +1,9 @@
+-- `put_diff`: its fields as one list. Assumes nothing.
+use Rattle.blank.proofs.FillLaws.{diff_made}
+use borrow.Author.Rules.{rules}
+use Rattle.blank.proofs.header.put_diff.Goals as goal
+
+pub returns : goal.returns
+returns c =
+    let a = c.args in
+    diff_made a.n _ a.at a.target.now _ _ c.partition_size-size.ensures.0 c.put_fields.ensures c.copy_into.ensures

@@ -1,0 +1,8 @@
+-- The three runs are the description.
+use Rattle.boundary.specs.Boundary.{description}
+use borrow.Author.Rules.{rules}
+use Rattle.boundary.proofs.description.numbers_of.Goals as goal
+
+pub returns : goal.returns
+unfolding description
+returns c = cc

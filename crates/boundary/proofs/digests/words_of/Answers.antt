@@ -1,0 +1,20 @@
+use mathlib.Core.Path.{◌≡◌, refl, ◌∙◌}
+use Prim.Native.Nat.{◌-◌, ◌≤◌}
+use native.Mathlib.Omega.{arith}
+use lib.ListN.{length, length-set}
+use borrow.Author.Rules.{rules}
+use Rattle.boundary.proofs.StateLaws.{Words, read_more, all_read}
+use Rattle.boundary.proofs.digests.words_of.Goals as goal
+
+pub loop-k-init : goal.loop-k-init
+loop-k-init c = (refl, omega arith, λ j l. absurd (omega arith))
+
+pub loop-k-preserved : goal.loop-k-preserved
+loop-k-preserved c =
+    let l = c.loop-k in
+    (length-set l.hash l.k c.field4.result ∙ l.invariant.0, omega arith, read_more _ l.hash l.k c.field4.result l.invariant.2 c.field4.ensures (omega arith))
+
+pub returns : goal.returns
+returns c =
+    let l = c.loop-k in
+    all_read _ l.hash l.invariant.0 (λ j h. l.invariant.2 j (omega arith))

@@ -1,0 +1,14 @@
+-- `words_of`: after k turns the first k words are read. Assumes nothing.
+use mathlib.Core.Path.{◌≡◌, refl, ◌∙◌}
+use Prim.Native.Nat.{◌-◌, ◌≤◌}
+use native.Mathlib.Omega.{arith}
+use lib.ListN.{length, length-set}
+use borrow.Author.Rules.{rules}
+use Rattle.boundary.proofs.StateLaws.{Words, read_more, all_read}
+use Rattle.boundary.proofs.digests.words_of.Given as goal
+
+abbrev pub invariant-loop-k : goal.invariant-loop-k
+invariant-loop-k l = (length l.hash ≡ 8) × (l.k ≤ 8) × Words l.bytes l.hash l.k
+
+abbrev pub decreases-loop-k : goal.decreases-loop-k
+decreases-loop-k l = 8 - l.k

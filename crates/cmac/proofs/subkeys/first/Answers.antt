@@ -1,0 +1,8 @@
+-- `first`: L, doubled.
+use mathlib.Core.Path.{ap, ◌∙◌}
+use Rattle.cmac.specs.Cmac.{doubled}
+use borrow.Author.Rules.{rules}
+use Rattle.cmac.proofs.subkeys.first.Goals as goal
+
+pub returns : goal.returns
+returns c = c.doubled.ensures ∙ ap doubled c.encrypt.ensures

@@ -1,0 +1,19 @@
+-- `entries::reading::first_unknown` meets its contract. Assumes nothing.
+use mathlib.Core.Path.{◌≡◌, refl, sym, ◌∙◌}
+use Prim.Native.Nat.{suc, ◌-◌, ◌≤◌}
+use lib.ListN.{length}
+use native.Mathlib.Omega.{arith}
+use borrow.Author.Tests.{not-true, not-false}
+use Rattle.ivfc.specs.Verified.{first_not}
+use Rattle.ivfc.specs.Views.{verified}
+use Rattle.entries.specs.Known.{Knows}
+use Rattle.entries.proofs.ReadLaws.{level4_is, block4_small, first_good, first_bad, first_none}
+use Rattle.entries.proofs.reading.first_unknown.Given as goal
+
+abbrev pub invariant-loop-b : goal.invariant-loop-b
+invariant-loop-b l =
+    (length l.known ≡ length l.initial.known) × (l.b ≤ suc l.last) × Knows l.view l.image l.known
+    × (first_not (verified l.view l.image 4) l.first (suc l.last - l.first) ≡ first_not (verified l.view l.image 4) l.b (suc l.last - l.b))
+
+abbrev pub decreases-loop-b : goal.decreases-loop-b
+decreases-loop-b l = suc l.last - l.b

@@ -1,0 +1,18 @@
+-- `mark_view` meets its contract. The loop's invariant: the levels before i are judged. The measure is how many are left. Assumes nothing.
+use Prim.Native.Nat.{ℕ, ◌+◌, ◌-◌, ◌≤◌}
+use mathlib.Core.Path.{◌≡◌, refl, ap, ◌∙◌}
+use native.Mathlib.Omega.{arith}
+use lib.ListN.{length}
+use Rattle.number.specs.Blocks.{blocks}
+use Rattle.faults.specs.Marking.{blocks_before, Judges}
+use Rattle.faults.proofs.NumberLaws.{before_step, before_mono, ordered, judges_none, judges_step, judges_awaits}
+use borrow.Author.Rules.{rules}
+use Rattle.faults.proofs.judging.mark_view.Given as goal
+
+abbrev pub invariant-loop-i : goal.invariant-loop-i
+invariant-loop-i l =
+    (1 ≤ l.i) × (l.i ≤ 5) × (length l.marks ≡ length l.initial.marks) × (l.above ≡ l.start + blocks_before l.view (l.i - 1)) × (l.at ≡ l.start + blocks_before l.view l.i)
+    × Judges l.view l.image l.initial.marks l.start l.i l.marks
+
+abbrev pub decreases-loop-i : goal.decreases-loop-i
+decreases-loop-i l = 5 - l.i

@@ -1,0 +1,15 @@
+-- `turn_from` meets its contract. Assumes nothing.
+use Rattle.faults.proofs.TurnLaws.{may_find, turned_valid, turned_refused}
+use borrow.Author.Rules.{rules}
+use Rattle.faults.proofs.listing.turn_from.Goals as goal
+
+pub find-found-requires : goal.find-found-requires
+find-found-requires c = may_find _ _ c.requires _ c.answer-1.given.1
+
+pub returns-in-Valid : goal.returns-in-Valid
+returns-in-Valid c =
+    turned_valid _ _ _ c.requires _ c.answer-1.given.1 c.args.room c.args.at _ c.find-found.ensures
+
+pub returns-in-Refused : goal.returns-in-Refused
+returns-in-Refused c =
+    turned_refused _ _ _ c.requires _ c.enum_told-1.given.1 c.args.room c.args.at _

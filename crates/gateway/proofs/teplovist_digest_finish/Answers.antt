@@ -1,0 +1,7 @@
+-- The call's contract, through the digest's bytes and the answer's number. Assumes nothing.
+use Rattle.boundary.proofs.StateLaws.{finished_bytes}
+use borrow.Author.Rules.{rules}
+use Rattle.gateway.proofs.teplovist_digest_finish.Goals as goal
+
+pub returns : goal.returns
+returns c = finished_bytes _ c.finish-finished.result c.running_of.ensures c.finish-finished.ensures c.outcome_answer.ensures c.digest_left.ensures

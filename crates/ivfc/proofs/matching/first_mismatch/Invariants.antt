@@ -1,0 +1,16 @@
+-- `first_mismatch` meets its contract. The loop's invariant: all blocks before b match, so the search from b on answers for the whole. The measure
+-- is how many are left. Assumes nothing.
+use Prim.Native.Nat.{◌-◌, ◌≤◌}
+use mathlib.Core.Path.{◌≡◌, refl, sym, ◌∙◌}
+use native.Mathlib.Omega.{arith}
+use Rattle.ivfc.specs.Verified.{first_not}
+use Rattle.ivfc.specs.Views.{matches}
+use Rattle.ivfc.proofs.RowLaws.{first_to, row_passed, row_stops, first_none}
+use Rattle.ivfc.proofs.matching.first_mismatch.Given as goal
+
+abbrev pub invariant-loop-b : goal.invariant-loop-b
+invariant-loop-b l =
+    (l.first ≤ l.b) × (l.b ≤ l.end) × (first_not (matches l.view l.image l.i) l.first (l.end - l.first) ≡ first_not (matches l.view l.image l.i) l.b (l.end - l.b))
+
+abbrev pub decreases-loop-b : goal.decreases-loop-b
+decreases-loop-b l = l.end - l.b

@@ -1,0 +1,127 @@
+use Prim.Native.Nat.{ℕ, suc, ◌+◌, ◌-◌, ◌≤◌, ◌<◌, min}
+use mathlib.Core.Path.{◌≡◌, refl, sym, ap, ◌∙◌}
+use native.Mathlib.Omega.{arith}
+use native.Mathlib.Nat.{pos_of_ne-zero}
+use Rattle.number.specs.declared.Level.{Level}
+use Rattle.number.specs.Blocks.{blocks}
+use Rattle.ivfc.specs.Blocks.{parent, child}
+use Rattle.ivfc.specs.Verified.{count_of}
+use Rattle.ivfc.specs.Views.{level_of, content_of, verified}
+use Rattle.ivfc.specs.Rules.{Remembers}
+use Rattle.ivfc.proofs.VerifiedLaws.{parent_inside}
+use Rattle.ivfc.proofs.LowestLaws.{first_between, count_le}
+use Rattle.ivfc.proofs.JudgeLaws.{blocks_small, counted, counted_none, counted_all}
+use Rattle.ivfc.proofs.verifying.count_verified.Goals as goal
+
+pub level_of-requires : goal.level_of-requires
+level_of-requires c = tt
+
+pub block_count-n-requires : goal.block_count-n-requires
+block_count-n-requires c = tt
+
+pub returns-then-n-eq0 : goal.returns-then-n-eq0
+unfolding count_of
+returns-then-n-eq0 c =
+    let a = c.args in
+    let e : blocks (level_of a.view 4) ≡ 0 = sym (c.block_count-n.ensures ∙ ap blocks c.level_of.ensures) ∙ c.if-n-eq0.true in
+    rw e refl
+
+pub level_of-requires-2 : goal.level_of-requires-2
+level_of-requires-2 c = tt
+
+pub overflow_sub-n : goal.overflow_sub-n
+overflow_sub-n c = omega (arith, pos_of_ne-zero c.if-n-eq0.false)
+
+pub parent_of-last-requires : goal.parent_of-last-requires
+parent_of-last-requires c =
+    let l : c.level_of-2.result.log ≤ 16 = rw c.level_of-2.ensures (c.requires.hash.logs 3 (omega arith)).1 in
+    let e : c.block_count-n.result ≡ blocks (level_of c.args.view 4) =
+    c.block_count-n.ensures ∙ ap blocks c.level_of.ensures in
+    (omega arith, omega (arith, blocks_small c.args.view _ c.requires 4 (omega arith)))
+
+pub nothing_seen-memory-requires : goal.nothing_seen-memory-requires
+nothing_seen-memory-requires c = tt
+
+pub loop-p-init : goal.loop-p-init
+loop-p-init c =
+    let a = c.args in
+    let n = c.block_count-n.result in
+    let last = c.parent_of-last.result in
+    let some : 0 < n = pos_of_ne-zero c.if-n-eq0.false in
+    let z : last ≡ parent (level_of a.view 3) (n - 1) =
+    c.parent_of-last.ensures ∙ ap (λ (l : Level). parent l (n - 1)) c.level_of-2.ensures in (
+      c.block_count-n.ensures ∙ ap blocks c.level_of.ensures,
+      some,
+      z,
+      c.nothing_seen-memory.ensures a.view a.image.now 3 last,
+      counted_none (level_of a.view) (content_of a.view a.image.now) 4 (omega arith) (c.requires.hash.logs 3 (omega arith)).0 n last some z,
+    )
+
+-- the last block of level 3 that has an entry of level 4 is there
+last-inside : (c : goal.At-loop-p) → c.parent_of-last.result < blocks (level_of c.args.view 3)
+last-inside c =
+    let n : ℕ = c.block_count-n.result in
+    let k : n - 1 < blocks (level_of c.args.view 4) = omega (arith, c.loop-p.invariant.0, c.loop-p.invariant.1) in
+    rw c.loop-p.invariant.2 (parent_inside (level_of c.args.view) c.requires.hash 3 (n - 1) (omega arith) k)
+
+pub judge-judged-requires : goal.judge-judged-requires
+judge-judged-requires c = (c.requires, omega arith, c.loop-p-test.true, last-inside c.before, c.loop-p.invariant.3)
+
+-- the row ends at the last block or before, or one past it
+ends : (c : goal.After-judge-judged)
+    → (c.loop-p.p ≤ c.judge-judged.result.end) × (c.judge-judged.result.end ≤ suc c.parent_of-last.result)
+ends c =
+    let a = c.args in
+    first_between (verified a.view a.image.now 3) _ _ _ c.loop-p-test.true c.judge-judged.ensures.0
+
+pub count_under-count-requires : goal.count_under-count-requires
+count_under-count-requires c =
+    let l = c.loop-p in
+    let e = ends c.before in
+    (c.requires, omega (arith, l.invariant.0, l.invariant.1), omega (arith, e.0), omega (arith, e.1, last-inside c.before.before.before))
+
+-- one row more, and the block that ends it
+turned : (c : goal.After-count_under-count) → c.loop-p.count + c.count_under-count.result
+    ≡ count_of (verified c.args.view c.args.image.now 4) (min c.block_count-n.result (child (level_of c.args.view 3) (c.judge-judged.result.end + 1)))
+turned c =
+    let l = c.loop-p in
+    let a = c.args in
+    let n : ℕ = c.block_count-n.result in
+    ap (λ (k : ℕ). k + c.count_under-count.result) l.invariant.4
+    ∙ counted (level_of a.view) (content_of a.view a.image.now) 4 (omega arith) (c.requires.hash.logs 3 (omega arith)).0 n _ l.invariant.1 l.invariant.2
+    l.p c.judge-judged.result.end c.count_under-count.result c.loop-p-test.true c.judge-judged.ensures.0
+    (rw l.invariant.0 c.count_under-count.ensures)
+
+pub overflow_add-count : goal.overflow_add-count
+overflow_add-count c =
+    let l = c.loop-p in
+    let a = c.args in
+    let n : ℕ = c.block_count-n.result in
+    record {
+      fits = omega (
+        arith,
+        turned c,
+        count_le (verified a.view a.image.now 4) (min n (child (level_of a.view 3) (c.judge-judged.result.end + 1))),
+        l.invariant.0,
+        blocks_small a.view _ c.requires 4 (omega arith),
+      );
+    }
+
+pub overflow_add-p : goal.overflow_add-p
+overflow_add-p c =
+    record { fits = omega (arith, (ends c.before.before.before).1, last-inside c.before.before.before.before.before, blocks_small c.args.view _ c.requires 3 (omega arith)) }
+
+pub loop-p-smaller : goal.loop-p-smaller
+loop-p-smaller c = omega (arith, (ends c.before.before.before).0, c.loop-p-test.true)
+
+pub loop-p-preserved : goal.loop-p-preserved
+loop-p-preserved c =
+    let l = c.loop-p in
+    (l.invariant.0, l.invariant.1, l.invariant.2, c.judge-judged.ensures.1, turned c.before)
+
+pub returns : goal.returns
+returns c =
+    let a = c.args in
+    let l = c.loop-p in
+    let e = counted_all (level_of a.view) (content_of a.view a.image.now) 4 (omega arith) (c.requires.hash.logs 3 (omega arith)).0 _ _ l.invariant.1 l.invariant.2 l.p c.loop-p-test.false in
+    l.invariant.4 ∙ ap (count_of (verified a.view a.image.now 4)) (e ∙ l.invariant.0)

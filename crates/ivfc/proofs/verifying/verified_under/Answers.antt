@@ -1,0 +1,17 @@
+-- `verified_under` goes by the answer for the block that holds the entry, and then by the entry. Assumes nothing.
+use mathlib.Core.Path.{sym, ◌∙◌}
+use borrow.Author.Rules.{rules}
+use Rattle.ivfc.specs.Views.{level_of, content_of}
+use Rattle.ivfc.proofs.VerifiedLaws.{verified_below, verified_under}
+use Rattle.ivfc.proofs.verifying.verified_under.Goals as goal
+
+pub returns-then-above : goal.returns-then-above
+returns-then-above c =
+    let a = c.args in
+    verified_below (level_of a.view) (content_of a.view a.image.now) a.i a.b c.block_matches.result c.requires.view_rules.1
+    (sym c.requires.above_value ∙ c.if-above.true) c.block_matches.ensures
+
+pub returns : goal.returns
+returns c =
+    let a = c.args in
+    verified_under (level_of a.view) (content_of a.view a.image.now) a.i a.b c.requires.view_rules.1 (sym c.requires.above_value ∙ c.if-above.false)

@@ -1,0 +1,10 @@
+-- `layout::descriptors::pieces_placed` meets its contract. Assumes nothing.
+use Rattle.layout.specs.Descriptors.{pieces_placed}
+use Rattle.layout.proofs.descriptors.pieces_placed.Goals as goal
+
+pub four_placed-requires : goal.four_placed-requires
+four_placed-requires c = tt
+
+pub returns : goal.returns
+unfolding pieces_placed
+returns c = c.four_placed.ensures

@@ -1,0 +1,6 @@
+-- `layout::headers::range_at` meets its contract. Assumes nothing.
+use borrow.Author.Rules.{rules}
+use Rattle.layout.proofs.headers.range_at.Goals as goal
+
+pub returns : goal.returns
+returns c = λ i. record { offset = c.field8.ensures i; size = c.field8-2.ensures i }

@@ -1,0 +1,8 @@
+use Rattle.number.specs.Fields.{le16}
+use native.Mathlib.Omega.{arith}
+use borrow.Author.Rules.{rules}
+use Rattle.number.proofs.fields.two_bytes.Goals as goal
+
+pub returns : goal.returns
+unfolding le16
+returns c = omega arith

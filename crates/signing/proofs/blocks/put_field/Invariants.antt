@@ -1,0 +1,17 @@
+-- `put_field` stores a field's bytes one by one. The invariant: what is stored, with the bytes that are left, is the field. Assumes nothing.
+use mathlib.Core.Path.{◌≡◌, refl, sym, ◌∙◌}
+use Prim.Native.Nat.{◌+◌, ◌-◌, ◌≤◌}
+use native.Mathlib.Omega.{arith}
+use lib.ListN.{length, length-set}
+use lib.Seq.{sets}
+use borrow.Author.Rules.{rules}
+use Rattle.number.specs.Fields.{field_bytes}
+use Rattle.signing.proofs.FieldLaws.{field_starts, field_step, field_ends}
+use Rattle.signing.proofs.blocks.put_field.Given as goal
+
+abbrev pub invariant-loop-k : goal.invariant-loop-k
+invariant-loop-k l =
+    (length l.block ≡ length l.initial.block) × (l.k ≤ l.size) × (sets l.block (l.at + l.k) (field_bytes (l.size - l.k) l.rest) ≡ sets l.initial.block l.at (field_bytes l.size l.value))
+
+abbrev pub decreases-loop-k : goal.decreases-loop-k
+decreases-loop-k l = l.size - l.k

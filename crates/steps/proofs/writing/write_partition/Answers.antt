@@ -1,0 +1,33 @@
+-- `write_partition`: what `judge_write` answers, then the write, and how it ends. Assumes nothing.
+use Rattle.steps.proofs.SessionLaws.{view_keeps, write_refused, write_asks, write_done}
+use Rattle.layout.proofs.GuaranteeLaws.{guarantees}
+use Rattle.views.proofs.FitLaws.{space_fits, places_fit}
+use borrow.Author.Rules.{rules}
+use Rattle.steps.proofs.writing.write_partition.Goals as goal
+
+pub staged_view-view-requires : goal.staged_view-view-requires
+staged_view-view-requires c = places_fit c.args.image.now c.args.c (guarantees _ _ c.requires.0) c.args.q c.requires.1
+
+pub judge_write-requires : goal.judge_write-requires
+judge_write-requires c =
+    let a = c.args in
+    view_keeps a.image.now a.c c.requires.0 a.session a.q c.requires.1 a.place a.bytes.now c.staged_view-view.result c.staged_view-view.ensures
+
+pub space_of-requires : goal.space_of-requires
+space_of-requires c = space_fits c.args.image.now c.args.c (guarantees _ _ c.requires.0)
+
+pub write_level4-requires : goal.write_level4-requires
+write_level4-requires c =
+    let a = c.args in
+    write_asks a.image.now a.c c.requires.0 a.session a.q c.requires.1 a.place a.bytes.now c.staged_view-view.result c.staged_view-view.ensures c.judge_write.result c.judge_write.ensures c.enum_told-1.given.1 c.space_of.result c.space_of.ensures
+
+pub returns-in-Refused : goal.returns-in-Refused
+returns-in-Refused c =
+    let a = c.args in
+    write_refused a.image.now a.c c.requires.0 a.session a.q c.requires.1 a.place a.bytes.now c.staged_view-view.result c.staged_view-view.ensures c.judge_write.result c.judge_write.ensures _ c.refusal-1.given.1 c.refused.result c.refused.ensures
+
+pub returns-in-Accepted : goal.returns-in-Accepted
+returns-in-Accepted c =
+    let a = c.args in
+    write_done a.image.now a.c c.requires.0 a.session a.q c.requires.1 a.place a.bytes.now c.staged_view-view.result c.staged_view-view.ensures c.judge_write.result c.judge_write.ensures c.enum_told-1.given.1
+    _ c.write_level4.result c.write_level4.ensures.0 c.write_level4.ensures.1 c.finish.result c.finish.ensures

@@ -1,0 +1,20 @@
+-- `zero_among` looks at one entry after another. The loop's invariant: none before was all zero. Assumes nothing.
+use mathlib.Core.Path.{◌≡◌, refl, sym, ◌∙◌}
+use Prim.Native.Nat.{suc, ◌≤◌, ◌-◌, ◌+◌, ◌*◌}
+use native.Mathlib.Omega.{arith}
+use borrow.Author.Rules.{rules}
+use lib.ListN.{length}
+use Rattle.ivfc.specs.Views.{level_of, content_of}
+use Rattle.ivfc.proofs.ViewLaws.{level_small}
+use Rattle.ivfc.proofs.VerifiedLaws.{entry_inside}
+use Rattle.update.specs.Writing.{zero_among}
+use Rattle.update.proofs.ClearLaws.{among_here, among_next, among_end}
+use Rattle.update.proofs.zeros.zero_among.Given as goal
+
+abbrev pub invariant-loop-b : goal.invariant-loop-b
+invariant-loop-b l =
+    (l.first ≤ l.b) × (l.b ≤ suc l.last) × (length l.entry ≡ 32)
+    × (zero_among (content_of l.view l.image l.i) l.first (suc l.last - l.first) ≡ zero_among (content_of l.view l.image l.i) l.b (suc l.last - l.b))
+
+abbrev pub decreases-loop-b : goal.decreases-loop-b
+decreases-loop-b l = suc l.last - l.b
