@@ -1,10 +1,7 @@
 -- `chain`: after i turns the first i blocks are chained.
-use mathlib.Core.Path.{◌≡◌, refl, ap, ◌∙◌}
-use Prim.Native.Nat.{ℕ, ◌-◌, ◌≤◌}
-use native.Mathlib.Omega.{arith}
+use mathlib.Core.Path.{◌≡◌}
+use Prim.Native.Nat.{◌-◌, ◌≤◌}
 use Rattle.cmac.specs.Cmac.{chained}
-use Rattle.cmac.proofs.CodeLaws.{part_length, chain_more}
-use borrow.Author.Rules.{rules}
 use Rattle.cmac.proofs.chain.Given as goal
 
 abbrev pub invariant-loop-i : goal.invariant-loop-i

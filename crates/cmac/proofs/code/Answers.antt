@@ -1,6 +1,5 @@
 -- `code`: the blocks before the last, chained, and the last.
 use Rattle.cmac.proofs.CodeLaws.{cmac_end}
-use borrow.Author.Rules.{rules}
 use Rattle.cmac.proofs.code.Goals as goal
 
 pub returns : goal.returns

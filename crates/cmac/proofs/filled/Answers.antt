@@ -1,7 +1,6 @@
 -- `filled`: the bytes are stored over zeros.
 use native.Mathlib.Omega.{arith}
 use Rattle.cmac.proofs.CodeLaws.{fill_done}
-use borrow.Author.Rules.{rules}
 use Rattle.cmac.proofs.filled.Goals as goal
 
 pub returns : goal.returns

@@ -1,11 +1,9 @@
 use mathlib.Core.Path.{◌≡◌, refl, ◌∙◌}
-use Prim.Native.Nat.{◌+◌, ◌-◌, ◌/◌, ◌≤◌}
+use Prim.Native.Nat.{◌+◌, ◌/◌}
 use native.Mathlib.Omega.{arith}
-use borrow.Author.Rules.{rules}
-use lib.ListN.{length}
 use Rattle.sha256.specs.Sha256.{hashed}
 use Rattle.lanes.specs.Flat.{lane_block, hash_of}
-use Rattle.lanes.proofs.DigestLaws.{Hashed, hash_more, digests_are}
+use Rattle.lanes.proofs.DigestLaws.{hash_more, digests_are}
 use Rattle.lanes.proofs.LaneLaws.{lane_started}
 use Rattle.lanes.proofs.digest_eight.Goals as goal
 

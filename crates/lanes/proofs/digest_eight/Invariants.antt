@@ -1,13 +1,8 @@
 -- `digest_eight`: after b turns each lane has the hash value of the first b blocks of its padded message.
-use mathlib.Core.Path.{◌≡◌, refl, ◌∙◌}
+use mathlib.Core.Path.{◌≡◌}
 use Prim.Native.Nat.{◌+◌, ◌-◌, ◌/◌, ◌≤◌}
-use native.Mathlib.Omega.{arith}
-use borrow.Author.Rules.{rules}
 use lib.ListN.{length}
-use Rattle.sha256.specs.Sha256.{hashed}
-use Rattle.lanes.specs.Flat.{lane_block, hash_of}
-use Rattle.lanes.proofs.DigestLaws.{Hashed, hash_more, digests_are}
-use Rattle.lanes.proofs.LaneLaws.{lane_started}
+use Rattle.lanes.proofs.DigestLaws.{Hashed}
 use Rattle.lanes.proofs.digest_eight.Given as goal
 
 abbrev pub invariant-loop-b : goal.invariant-loop-b

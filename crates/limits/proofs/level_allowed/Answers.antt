@@ -1,5 +1,4 @@
 -- `limits::level_allowed` meets its contract. Assumes nothing.
-use borrow.Author.Rules.{rules}
 use Rattle.limits.specs.Limits.{level_allowed}
 use Rattle.limits.proofs.level_allowed.Goals as goal
 

@@ -1,5 +1,4 @@
 -- `limits::master_allowed` meets its contract. Assumes nothing.
-use borrow.Author.Rules.{rules}
 use Rattle.limits.proofs.master_allowed.Goals as goal
 
 pub returns : goal.returns

@@ -1,6 +1,5 @@
 -- `limits::size_allowed` meets its contract. Assumes nothing.
 use mathlib.Core.Path.{refl}
-use borrow.Author.Rules.{rules}
 use Rattle.limits.specs.Limits.{size_allowed}
 use Rattle.limits.proofs.size_allowed.Goals as goal
 

@@ -5,7 +5,6 @@ use Prim.Native.Nat.{ℕ, ◌/◌}
 use lib.ListN.{length}
 use Rattle.sha256.specs.Sha256.{hashed}
 use Rattle.sha256.proofs.Padding.{all_done}
-use borrow.Author.Rules.{rules}
 use Rattle.sha256.proofs.digest.Goals as goal
 
 pub returns : goal.returns

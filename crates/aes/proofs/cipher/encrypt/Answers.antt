@@ -1,7 +1,6 @@
 use mathlib.Core.Path.{◌≡◌}
-use Prim.Native.Nat.{◌≤◌, ◌-◌}
 use native.Mathlib.Omega.{arith}
-use Rattle.aes.proofs.Rounds.{Reached, reached_none, reached_more, reached_end}
+use Rattle.aes.proofs.Rounds.{reached_none, reached_more, reached_end}
 use borrow.Author.Rules.{rules}
 use Rattle.aes.proofs.cipher.encrypt.Goals as goal
 

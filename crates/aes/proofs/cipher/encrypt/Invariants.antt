@@ -1,9 +1,6 @@
 -- `encrypt`: after i turns, what `Reached` says of i rounds.
-use mathlib.Core.Path.{◌≡◌}
 use Prim.Native.Nat.{◌≤◌, ◌-◌}
-use native.Mathlib.Omega.{arith}
-use Rattle.aes.proofs.Rounds.{Reached, reached_none, reached_more, reached_end}
-use borrow.Author.Rules.{rules}
+use Rattle.aes.proofs.Rounds.{Reached}
 use Rattle.aes.proofs.cipher.encrypt.Given as goal
 
 abbrev pub invariant-loop-i : goal.invariant-loop-i

@@ -3,7 +3,6 @@ use mathlib.Core.Path.{ap, ◌∙◌}
 use mathlib.Core.List.{List}
 use Prim.Native.Nat.{ℕ}
 use Rattle.aes.specs.Aes.{xor, ShiftRows}
-use borrow.Author.Rules.{rules}
 use Rattle.aes.proofs.cipher.last_round.Goals as goal
 
 pub returns : goal.returns

@@ -3,7 +3,6 @@ use mathlib.Core.Path.{ap, sym, ◌∙◌}
 use Prim.Native.Nat.{ℕ}
 use Rattle.aes.specs.Field.{◌⊕◌}
 use Rattle.aes.proofs.FieldLaws.{two, three}
-use borrow.Author.Rules.{rules}
 use Rattle.aes.proofs.field.triple.Goals as goal
 
 pub returns : goal.returns

@@ -1,6 +1,5 @@
 -- `first_word`: by the four substitutions.
 use Rattle.aes.proofs.KeyLaws.{first_word_lem}
-use borrow.Author.Rules.{rules}
 use Rattle.aes.proofs.key.first_word.Goals as goal
 
 pub returns : goal.returns

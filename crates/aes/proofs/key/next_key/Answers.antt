@@ -1,7 +1,6 @@
-use Prim.Native.Nat.{◌-◌, ◌≤◌}
 use native.Mathlib.Omega.{arith}
-use Rattle.aes.specs.Keys.{first_word, next_byte}
-use Rattle.aes.proofs.Built.{Built, built_more, built_block}
+use Rattle.aes.specs.Keys.{first_word}
+use Rattle.aes.proofs.Built.{built_more, built_block}
 use Rattle.aes.proofs.KeyLaws.{first_built, further}
 use borrow.Author.Rules.{rules}
 use Rattle.aes.proofs.key.next_key.Goals as goal

@@ -1,10 +1,7 @@
 -- `next_key`: the first word, and after i turns the first i bytes of the round key.
 use Prim.Native.Nat.{◌-◌, ◌≤◌}
-use native.Mathlib.Omega.{arith}
 use Rattle.aes.specs.Keys.{first_word, next_byte}
-use Rattle.aes.proofs.Built.{Built, built_more, built_block}
-use Rattle.aes.proofs.KeyLaws.{first_built, further}
-use borrow.Author.Rules.{rules}
+use Rattle.aes.proofs.Built.{Built}
 use Rattle.aes.proofs.key.next_key.Given as goal
 
 abbrev pub invariant-loop-i : goal.invariant-loop-i

@@ -1,9 +1,8 @@
 use mathlib.Core.Path.{◌∙◌}
-use Prim.Native.Nat.{◌-◌}
 use native.Mathlib.Omega.{arith}
 use Rattle.aes.specs.Aes.{MixColumns}
-use Rattle.aes.proofs.Built.{Built, built_none, built_more, built_block}
-use Rattle.aes.proofs.Places.{mixed_byte, mixed_byte_lem}
+use Rattle.aes.proofs.Built.{built_none, built_more, built_block}
+use Rattle.aes.proofs.Places.{mixed_byte_lem}
 use borrow.Author.Rules.{rules}
 use Rattle.aes.proofs.state.mix_columns.Goals as goal
 

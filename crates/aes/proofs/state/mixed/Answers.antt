@@ -1,5 +1,4 @@
 -- `mixed`: by the two products.
-use borrow.Author.Rules.{rules}
 use Rattle.aes.proofs.state.mixed.Goals as goal
 
 pub returns : goal.returns

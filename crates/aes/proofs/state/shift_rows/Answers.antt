@@ -1,8 +1,7 @@
-use Prim.Native.Nat.{◌-◌}
 use native.Mathlib.Omega.{arith}
 use Rattle.aes.specs.Aes.{ShiftRows}
-use Rattle.aes.proofs.Built.{Built, built_none, built_more, built_block}
-use Rattle.aes.proofs.Places.{shifted_byte, shifted_byte_lem}
+use Rattle.aes.proofs.Built.{built_none, built_more, built_block}
+use Rattle.aes.proofs.Places.{shifted_byte_lem}
 use borrow.Author.Rules.{rules}
 use Rattle.aes.proofs.state.shift_rows.Goals as goal
 

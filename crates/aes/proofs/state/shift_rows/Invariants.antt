@@ -1,10 +1,7 @@
 -- `shift_rows`: after i turns the first i bytes are shifted.
 use Prim.Native.Nat.{◌-◌}
-use native.Mathlib.Omega.{arith}
-use Rattle.aes.specs.Aes.{ShiftRows}
-use Rattle.aes.proofs.Built.{Built, built_none, built_more, built_block}
-use Rattle.aes.proofs.Places.{shifted_byte, shifted_byte_lem}
-use borrow.Author.Rules.{rules}
+use Rattle.aes.proofs.Built.{Built}
+use Rattle.aes.proofs.Places.{shifted_byte}
 use Rattle.aes.proofs.state.shift_rows.Given as goal
 
 abbrev pub invariant-loop-i : goal.invariant-loop-i

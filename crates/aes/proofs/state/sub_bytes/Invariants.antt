@@ -1,11 +1,7 @@
 -- `sub_bytes`: after i turns the first i bytes are substituted.
-use mathlib.Core.Path.{◌∙◌}
 use Prim.Native.Nat.{◌-◌}
-use native.Mathlib.Omega.{arith}
-use Rattle.aes.specs.Aes.{SubBytes}
-use Rattle.aes.proofs.Built.{Built, built_none, built_more, built_block}
-use Rattle.aes.proofs.Places.{sub_byte, sub_byte_lem}
-use borrow.Author.Rules.{rules}
+use Rattle.aes.proofs.Built.{Built}
+use Rattle.aes.proofs.Places.{sub_byte}
 use Rattle.aes.proofs.state.sub_bytes.Given as goal
 
 abbrev pub invariant-loop-i : goal.invariant-loop-i

@@ -1,9 +1,6 @@
 use mathlib.Core.Path.{refl}
-use Prim.Native.Nat.{◌-◌}
 use native.Mathlib.Omega.{arith}
-use lib.ListN.{get_or}
-use Rattle.aes.specs.Field.{◌⊕◌}
-use Rattle.aes.proofs.Built.{Built, built_none, built_more, built_block}
+use Rattle.aes.proofs.Built.{built_none, built_more, built_block}
 use borrow.Author.Rules.{rules}
 use Rattle.aes.proofs.state.xor.Goals as goal
 

@@ -1,11 +1,8 @@
 -- `xor`: after i turns the first i bytes are sums.
-use mathlib.Core.Path.{refl}
 use Prim.Native.Nat.{◌-◌}
-use native.Mathlib.Omega.{arith}
 use lib.ListN.{get_or}
 use Rattle.aes.specs.Field.{◌⊕◌}
-use Rattle.aes.proofs.Built.{Built, built_none, built_more, built_block}
-use borrow.Author.Rules.{rules}
+use Rattle.aes.proofs.Built.{Built}
 use Rattle.aes.proofs.state.xor.Given as goal
 
 abbrev pub invariant-loop-i : goal.invariant-loop-i

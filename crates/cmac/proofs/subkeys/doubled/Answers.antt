@@ -1,6 +1,5 @@
 -- `doubled`: shifted, and its last byte by the first bit.
 use Rattle.cmac.proofs.CodeLaws.{doubling}
-use borrow.Author.Rules.{rules}
 use Rattle.cmac.proofs.subkeys.doubled.Goals as goal
 
 pub returns : goal.returns

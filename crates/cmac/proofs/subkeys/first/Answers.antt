@@ -1,7 +1,6 @@
 -- `first`: L, doubled.
 use mathlib.Core.Path.{ap, ◌∙◌}
 use Rattle.cmac.specs.Cmac.{doubled}
-use borrow.Author.Rules.{rules}
 use Rattle.cmac.proofs.subkeys.first.Goals as goal
 
 pub returns : goal.returns

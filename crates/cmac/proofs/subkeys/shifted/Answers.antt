@@ -1,8 +1,7 @@
 use mathlib.Core.Path.{◌≡◌, ◌∙◌}
-use Prim.Native.Nat.{◌≤◌, ◌-◌}
 use native.Mathlib.Omega.{arith}
 use Rattle.cmac.specs.Cmac.{shifted}
-use Rattle.aes.proofs.Built.{Built, built_none, built_more, built_block}
+use Rattle.aes.proofs.Built.{built_none, built_more, built_block}
 use Rattle.cmac.proofs.CodeLaws.{shifted_byte, last_byte}
 use borrow.Author.Rules.{rules}
 use Rattle.cmac.proofs.subkeys.shifted.Goals as goal

@@ -1,11 +1,7 @@
 -- `shifted`: after i turns the first i bytes are shifted; the last byte has none after it.
-use mathlib.Core.Path.{◌≡◌, ◌∙◌}
 use Prim.Native.Nat.{◌≤◌, ◌-◌}
-use native.Mathlib.Omega.{arith}
-use Rattle.cmac.specs.Cmac.{shifted}
-use Rattle.aes.proofs.Built.{Built, built_none, built_more, built_block}
-use Rattle.cmac.proofs.CodeLaws.{shifted_byte, last_byte}
-use borrow.Author.Rules.{rules}
+use Rattle.aes.proofs.Built.{Built}
+use Rattle.cmac.proofs.CodeLaws.{shifted_byte}
 use Rattle.cmac.proofs.subkeys.shifted.Given as goal
 
 abbrev pub invariant-loop-i : goal.invariant-loop-i

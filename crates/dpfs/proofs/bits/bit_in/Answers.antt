@@ -2,7 +2,6 @@
 use native.Mathlib.Omega.{arith}
 use Rattle.dpfs.specs.Bits.{bit_place}
 use Rattle.dpfs.proofs.BitLaws.{fetched}
-use borrow.Author.Rules.{rules}
 use Rattle.number.specs.Fields.{test_bit}
 use Rattle.dpfs.proofs.bits.bit_in.Goals as goal
 

@@ -5,7 +5,6 @@ use Rattle.dpfs.specs.Bits.{bit_byte}
 use Rattle.dpfs.specs.Tree.{level_byte, select1, select2}
 use Rattle.dpfs.proofs.BitLaws.{bit_same}
 use Rattle.dpfs.proofs.LevelLaws.{half_length, half_byte}
-use borrow.Author.Rules.{rules}
 use Rattle.dpfs.proofs.bits.copy2.Goals as goal
 
 pub bit_in-requires : goal.bit_in-requires

@@ -8,7 +8,6 @@ use Rattle.dpfs.specs.Bits.{bit_byte}
 use Rattle.dpfs.specs.Tree.{place, level_byte, select2, select3}
 use Rattle.dpfs.proofs.BitLaws.{bit_same}
 use Rattle.dpfs.proofs.LevelLaws.{held1, half_length, half_byte}
-use borrow.Author.Rules.{rules}
 use Rattle.dpfs.proofs.bits.copy3.Goals as goal
 
 pub copy2-second-requires : goal.copy2-second-requires

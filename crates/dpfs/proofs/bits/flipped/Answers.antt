@@ -1,6 +1,5 @@
 -- The one bit is flipped. Assumes nothing.
 use Rattle.dpfs.proofs.BitLaws.{flip_code}
-use borrow.Author.Rules.{rules}
 use Rattle.dpfs.proofs.bits.flipped.Goals as goal
 
 pub returns : goal.returns

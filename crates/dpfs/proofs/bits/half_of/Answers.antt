@@ -2,7 +2,6 @@
 use native.Mathlib.Omega.{arith}
 use Rattle.dpfs.specs.Tree.{place}
 use Rattle.dpfs.proofs.LevelLaws.{half_inside, half_taken}
-use borrow.Author.Rules.{rules}
 use Rattle.dpfs.proofs.bits.half_of.Goals as goal
 
 pub overflow_add-end : goal.overflow_add-end

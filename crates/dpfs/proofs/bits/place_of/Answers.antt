@@ -1,6 +1,5 @@
 -- The sum that the code makes is the place, in either half. Assumes nothing.
 use Rattle.dpfs.proofs.LevelLaws.{place_second, place_first}
-use borrow.Author.Rules.{rules}
 use Rattle.dpfs.proofs.bits.place_of.Goals as goal
 
 pub returns-then-second : goal.returns-then-second

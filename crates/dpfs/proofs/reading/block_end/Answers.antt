@@ -5,7 +5,6 @@ use native.Mathlib.Omega.{arith}
 use Rattle.number.specs.Blocks.{block_size, block_of}
 use Rattle.number.proofs.BlockLaws.{block_starts}
 use Rattle.dpfs.proofs.RunLaws.{size_small, block_small, block_next, run_end_is}
-use borrow.Author.Rules.{rules}
 use Rattle.dpfs.proofs.reading.block_end.Goals as goal
 
 pub overflow_add-block_of : goal.overflow_add-block_of

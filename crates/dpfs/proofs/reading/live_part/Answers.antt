@@ -1,5 +1,4 @@
 -- The part handed back is that of the half which the bit names. Assumes nothing.
-use borrow.Author.Rules.{rules}
 use Rattle.dpfs.proofs.reading.live_part.Goals as goal
 
 pub returns-then-bit : goal.returns-then-bit

@@ -5,7 +5,6 @@ use lib.ListN.{length}
 use Rattle.dpfs.specs.Tree.{select3}
 use Rattle.dpfs.proofs.LevelLaws.{held2}
 use Rattle.dpfs.proofs.RunLaws.{run_is, halves_reach, first_half, second_half}
-use borrow.Author.Rules.{rules}
 use Rattle.dpfs.proofs.reading.run.Goals as goal
 
 pub copy3-second-requires : goal.copy3-second-requires

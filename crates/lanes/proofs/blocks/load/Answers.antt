@@ -1,10 +1,6 @@
 use mathlib.Core.Path.{◌≡◌}
-use Prim.Native.Nat.{◌-◌, ◌*◌, ◌≤◌}
 use native.Mathlib.Nat.{not-suc-le-zero}
 use native.Mathlib.Omega.{arith}
-use borrow.Author.Rules.{rules}
-use lib.ListN.{length}
-use Rattle.lanes.specs.Flat.{Loaded, lane_block}
 use Rattle.lanes.proofs.blocks.load.Goals as goal
 
 pub loop-row-init : goal.loop-row-init

@@ -1,9 +1,7 @@
 use mathlib.Core.Path.{◌≡◌}
-use Prim.Native.Nat.{◌+◌, ◌-◌, ◌*◌, ◌≤◌, ◌<◌}
+use Prim.Native.Nat.{◌+◌, ◌*◌, ◌<◌}
 use native.Mathlib.Omega.{arith}
-use borrow.Author.Rules.{rules}
 use lib.ListN.{length, length-set}
-use Rattle.lanes.specs.Flat.{Loaded, lane_block}
 use Rattle.lanes.proofs.BlockLaws.{lane_within, loaded_more}
 use Rattle.lanes.proofs.blocks.load_row.Goals as goal
 

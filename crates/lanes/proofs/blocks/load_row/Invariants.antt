@@ -1,11 +1,8 @@
 -- `load_row`: after some lanes the words of those lanes in the row are loaded, on top of the rows before.
 use mathlib.Core.Path.{◌≡◌}
-use Prim.Native.Nat.{◌+◌, ◌-◌, ◌*◌, ◌≤◌, ◌<◌}
-use native.Mathlib.Omega.{arith}
-use borrow.Author.Rules.{rules}
-use lib.ListN.{length, length-set}
+use Prim.Native.Nat.{◌+◌, ◌-◌, ◌*◌, ◌≤◌}
+use lib.ListN.{length}
 use Rattle.lanes.specs.Flat.{Loaded, lane_block}
-use Rattle.lanes.proofs.BlockLaws.{lane_within, loaded_more}
 use Rattle.lanes.proofs.blocks.load_row.Given as goal
 
 abbrev pub invariant-loop-lane : goal.invariant-loop-lane

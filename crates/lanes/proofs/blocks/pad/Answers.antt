@@ -1,11 +1,9 @@
 use mathlib.Core.Path.{◌≡◌}
-use Prim.Native.Nat.{ℕ, ◌-◌, ◌/◌, ◌≤◌, ◌<◌}
+use Prim.Native.Nat.{ℕ, ◌/◌, ◌<◌}
 use native.Mathlib.Nat.{not-suc-le-zero}
 use native.Mathlib.Omega.{arith}
-use borrow.Author.Rules.{rules}
 use lib.ListN.{length, length-set}
 use Rattle.sha256.specs.Sha256.{padding, word}
-use Rattle.lanes.specs.Flat.{Loaded}
 use Rattle.lanes.proofs.FlatLaws.{filled_more}
 use Rattle.lanes.proofs.blocks.pad.Goals as goal
 

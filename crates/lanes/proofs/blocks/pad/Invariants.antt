@@ -1,13 +1,9 @@
 -- `pad`: after i turns the first i places hold words of the padding.
 use mathlib.Core.Path.{◌≡◌}
-use Prim.Native.Nat.{ℕ, ◌-◌, ◌/◌, ◌≤◌, ◌<◌}
-use native.Mathlib.Nat.{not-suc-le-zero}
-use native.Mathlib.Omega.{arith}
-use borrow.Author.Rules.{rules}
-use lib.ListN.{length, length-set}
-use Rattle.sha256.specs.Sha256.{padding, word}
+use Prim.Native.Nat.{◌-◌, ◌≤◌}
+use lib.ListN.{length}
+use Rattle.sha256.specs.Sha256.{padding}
 use Rattle.lanes.specs.Flat.{Loaded}
-use Rattle.lanes.proofs.FlatLaws.{filled_more}
 use Rattle.lanes.proofs.blocks.pad.Given as goal
 
 abbrev pub invariant-loop-i : goal.invariant-loop-i

@@ -1,7 +1,6 @@
 -- `padding_word`: the one bit, the zeros and the length, by the place in the padding.
 use mathlib.Core.Path.{◌≡◌, sym}
 use native.Mathlib.Omega.{arith}
-use borrow.Author.Rules.{rules}
 use Rattle.lanes.proofs.BlockLaws.{padding_first, padding_middle, padding_last}
 use Rattle.lanes.proofs.blocks.padding_word.Goals as goal
 

@@ -1,11 +1,9 @@
 use mathlib.Core.Path.{◌≡◌, refl}
-use Prim.Native.Nat.{ℕ, ◌-◌, ◌/◌, ◌≤◌, ◌<◌}
+use Prim.Native.Nat.{ℕ, ◌/◌, ◌<◌}
 use native.Mathlib.Nat.{not-suc-le-zero}
 use native.Mathlib.Omega.{arith}
-use borrow.Author.Rules.{rules}
 use lib.ListN.{length, get_or, length-set}
 use Rattle.sha256.specs.Sha256.{K}
-use Rattle.lanes.specs.Flat.{Spread}
 use Rattle.lanes.proofs.FlatLaws.{filled_more}
 use Rattle.lanes.proofs.constants.spread.Goals as goal
 

@@ -1,9 +1,7 @@
 use mathlib.Core.Path.{◌≡◌, refl, ap, ◌∙◌}
-use Prim.Native.Nat.{◌-◌, ◌*◌, ◌≤◌}
 use native.Mathlib.Omega.{arith}
-use borrow.Author.Rules.{rules}
 use lib.Seq.{take_all}
-use lib.ListN.{length, take}
+use lib.ListN.{take}
 use Rattle.sha256.specs.Sha256.{digest_bytes}
 use Rattle.lanes.specs.Flat.{digests_of}
 use Rattle.lanes.proofs.DigestLaws.{digests_more}
@@ -21,7 +19,7 @@ loop-lane-preserved c =
     let put = c.put in (
       omega arith,
       put.ensures.0,
-      digests_more given.a.now given.e.now now.out put.new.1.1.0 digest.result now.lane now.invariant.2 (digest.ensures ∙ ap digest_bytes c.hash_of.ensures) put.ensures.1,
+      digests_more given.a.now given.e.now now.out put.new.out digest.result now.lane now.invariant.2 (digest.ensures ∙ ap digest_bytes c.hash_of.ensures) put.ensures.1,
     )
 
 pub returns : goal.returns

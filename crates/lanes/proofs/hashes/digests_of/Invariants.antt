@@ -1,13 +1,8 @@
 -- `digests_of`: after some lanes the bytes begin with the digests of those lanes.
-use mathlib.Core.Path.{◌≡◌, refl, ap, ◌∙◌}
+use mathlib.Core.Path.{◌≡◌}
 use Prim.Native.Nat.{◌-◌, ◌*◌, ◌≤◌}
-use native.Mathlib.Omega.{arith}
-use borrow.Author.Rules.{rules}
-use lib.Seq.{take_all}
 use lib.ListN.{length, take}
-use Rattle.sha256.specs.Sha256.{digest_bytes}
 use Rattle.lanes.specs.Flat.{digests_of}
-use Rattle.lanes.proofs.DigestLaws.{digests_more}
 use Rattle.lanes.proofs.hashes.digests_of.Given as goal
 
 abbrev pub invariant-loop-lane : goal.invariant-loop-lane

@@ -1,12 +1,8 @@
 -- `put`: after i turns the first i bytes of the digest stand behind what was there.
 use mathlib.Core.List.{◌++◌}
-use mathlib.Core.Path.{◌≡◌, refl}
-use Prim.Native.Nat.{◌+◌, ◌-◌, ◌*◌, ◌≤◌, ◌<◌}
-use native.Mathlib.Omega.{arith}
-use borrow.Author.Rules.{rules}
-use lib.Seq.{take_all}
-use lib.ListN.{length, length-set, take}
-use Rattle.lanes.proofs.DigestLaws.{put_none, put_more}
+use mathlib.Core.Path.{◌≡◌}
+use Prim.Native.Nat.{◌+◌, ◌-◌, ◌*◌, ◌≤◌}
+use lib.ListN.{length, take}
 use Rattle.lanes.proofs.hashes.put.Given as goal
 
 abbrev pub invariant-loop-i : goal.invariant-loop-i

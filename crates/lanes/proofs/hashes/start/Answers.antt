@@ -1,12 +1,10 @@
 use mathlib.Core.List.{List}
 use mathlib.Core.Path.{◌≡◌, ap}
-use Prim.Native.Nat.{ℕ, ◌-◌, ◌/◌, ◌≤◌, ◌<◌}
+use Prim.Native.Nat.{ℕ, ◌-◌, ◌/◌, ◌<◌}
 use native.Mathlib.Nat.{not-suc-le-zero}
 use native.Mathlib.Omega.{arith}
-use borrow.Author.Rules.{rules}
 use lib.ListN.{length, get_or, length-set}
 use Rattle.sha256.specs.Sha256.{H₀}
-use Rattle.lanes.specs.Flat.{Started}
 use Rattle.lanes.proofs.FlatLaws.{filled_more}
 use Rattle.lanes.proofs.hashes.start.Goals as goal
 

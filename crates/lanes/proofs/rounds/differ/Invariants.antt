@@ -1,12 +1,8 @@
 -- `differ`: after i turns the first i differences are there.
-use mathlib.Core.Path.{◌≡◌, refl}
-use Prim.Native.Nat.{◌+◌, ◌-◌, ◌≤◌, ◌<◌}
-use native.Mathlib.Nat.{not-suc-le-zero}
-use native.Mathlib.Omega.{arith}
-use borrow.Author.Rules.{rules}
-use lib.ListN.{length, length-set}
+use mathlib.Core.Path.{◌≡◌}
+use Prim.Native.Nat.{◌-◌, ◌≤◌}
+use lib.ListN.{length}
 use Rattle.lanes.specs.Flat.{Changed}
-use Rattle.lanes.proofs.FlatLaws.{changed_more}
 use Rattle.lanes.proofs.rounds.differ.Given as goal
 
 abbrev pub invariant-loop-i : goal.invariant-loop-i

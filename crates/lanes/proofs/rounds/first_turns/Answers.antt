@@ -1,10 +1,6 @@
 use mathlib.Core.Path.{◌≡◌, refl, ◌∙◌}
-use Prim.Native.Nat.{◌-◌, ◌≤◌}
 use native.Mathlib.Nat.{not-suc-le-zero}
 use native.Mathlib.Omega.{arith}
-use borrow.Author.Rules.{rules}
-use lib.ListN.{length}
-use Rattle.lanes.specs.Flat.{Agree, Scheduled, Reached}
 use Rattle.lanes.proofs.FlatLaws.{reached_none, reached_words}
 use Rattle.lanes.proofs.rounds.first_turns.Goals as goal
 

@@ -1,12 +1,8 @@
 -- `first_turns`: after i turns the rounds at i places are done, and the schedule has as many later words.
-use mathlib.Core.Path.{◌≡◌, refl, ◌∙◌}
+use mathlib.Core.Path.{◌≡◌}
 use Prim.Native.Nat.{◌-◌, ◌≤◌}
-use native.Mathlib.Nat.{not-suc-le-zero}
-use native.Mathlib.Omega.{arith}
-use borrow.Author.Rules.{rules}
 use lib.ListN.{length}
 use Rattle.lanes.specs.Flat.{Agree, Scheduled, Reached}
-use Rattle.lanes.proofs.FlatLaws.{reached_none, reached_words}
 use Rattle.lanes.proofs.rounds.first_turns.Given as goal
 
 abbrev pub invariant-loop-i : goal.invariant-loop-i

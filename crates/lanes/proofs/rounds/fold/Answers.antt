@@ -1,11 +1,9 @@
 use mathlib.Core.Path.{◌≡◌, refl}
-use Prim.Native.Nat.{◌-◌, ◌≤◌, ◌<◌}
+use Prim.Native.Nat.{◌<◌}
 use native.Mathlib.Nat.{not-suc-le-zero}
 use native.Mathlib.Omega.{arith}
-use borrow.Author.Rules.{rules}
 use lib.ListN.{length, length-set}
-use Rattle.lanes.specs.Flat.{Folded}
-use Rattle.lanes.proofs.FlatLaws.{Left, left_more, folded_more}
+use Rattle.lanes.proofs.FlatLaws.{left_more, folded_more}
 use Rattle.lanes.proofs.rounds.fold.Goals as goal
 
 pub loop-i-init : goal.loop-i-init

@@ -1,12 +1,9 @@
 -- `fold`: after i turns the first i words have the last ones added, and no other word is changed.
-use mathlib.Core.Path.{◌≡◌, refl}
-use Prim.Native.Nat.{◌-◌, ◌≤◌, ◌<◌}
-use native.Mathlib.Nat.{not-suc-le-zero}
-use native.Mathlib.Omega.{arith}
-use borrow.Author.Rules.{rules}
-use lib.ListN.{length, length-set}
+use mathlib.Core.Path.{◌≡◌}
+use Prim.Native.Nat.{◌-◌, ◌≤◌}
+use lib.ListN.{length}
 use Rattle.lanes.specs.Flat.{Folded}
-use Rattle.lanes.proofs.FlatLaws.{Left, left_more, folded_more}
+use Rattle.lanes.proofs.FlatLaws.{Left}
 use Rattle.lanes.proofs.rounds.fold.Given as goal
 
 abbrev pub invariant-loop-i : goal.invariant-loop-i

@@ -1,9 +1,5 @@
-use Prim.Native.Nat.{ℕ, ◌-◌, ◌≤◌}
 use mathlib.Core.Path.{◌≡◌}
-use mathlib.Core.List.{List}
 use native.Mathlib.Omega.{arith}
-use borrow.Author.Rules.{rules}
-use Rattle.lanes.specs.Flat.{Reached}
 use Rattle.lanes.proofs.rounds.last_turns.Goals as goal
 
 pub loop-i-init : goal.loop-i-init

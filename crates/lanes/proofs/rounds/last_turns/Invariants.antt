@@ -1,9 +1,6 @@
 -- `last_turns`: after each turn the rounds at i places are done, if those before the first turn were.
 use Prim.Native.Nat.{ℕ, ◌-◌, ◌≤◌}
-use mathlib.Core.Path.{◌≡◌}
 use mathlib.Core.List.{List}
-use native.Mathlib.Omega.{arith}
-use borrow.Author.Rules.{rules}
 use Rattle.lanes.specs.Flat.{Reached}
 use Rattle.lanes.proofs.rounds.last_turns.Given as goal
 

@@ -2,7 +2,6 @@
 use mathlib.Core.Path.{refl}
 use Prim.Native.Nat.{◌+◌, ◌<◌}
 use native.Mathlib.Omega.{arith}
-use borrow.Author.Rules.{rules}
 use lib.ListN.{length, length-set}
 use Rattle.lanes.proofs.FlatLaws.{agree_more, scheduled_more}
 use Rattle.lanes.proofs.rounds.schedule.Goals as goal

@@ -1,7 +1,6 @@
 -- `turn`: the new words and the difference are those of the round at place i.
 use mathlib.Core.Path.{refl}
 use Prim.Native.Nat.{◌+◌}
-use borrow.Author.Rules.{rules}
 use lib.ListN.{get_or}
 use Rattle.lanes.proofs.FlatLaws.{reached_more}
 use Rattle.lanes.proofs.rounds.turn.Goals as goal

@@ -1,6 +1,5 @@
 use Rattle.number.specs.Blocks.{block_length}
 use native.Mathlib.Omega.{arith}
-use borrow.Author.Rules.{rules}
 use Rattle.number.proofs.blocks.block_length.Goals as goal
 
 pub overflow_mul-b : goal.overflow_mul-b

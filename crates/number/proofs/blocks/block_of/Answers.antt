@@ -1,6 +1,5 @@
 use mathlib.Core.Path.{refl}
 use Rattle.number.specs.Blocks.{block_of, block_size}
-use borrow.Author.Rules.{rules}
 use Rattle.number.proofs.blocks.block_of.Goals as goal
 
 pub returns : goal.returns

@@ -4,7 +4,6 @@ use native.Mathlib.Nat.{one-mul}
 use native.Mathlib.Omega.{arith}
 use lib.Pow.{shl_exact, pow_pos}
 use Rattle.number.specs.Blocks.{block_size}
-use borrow.Author.Rules.{rules}
 use Rattle.number.proofs.blocks.block_size.Goals as goal
 
 pub returns : goal.returns

@@ -3,7 +3,6 @@ use Prim.Native.Nat.{◌+◌}
 use mathlib.Core.Path.{◌∙◌}
 use native.Mathlib.Omega.{arith}
 use Rattle.number.proofs.FieldLaws.{four_alone}
-use borrow.Author.Rules.{rules}
 use Rattle.number.proofs.fields.field4.Goals as goal
 
 pub returns-then-end-s : goal.returns-then-end-s

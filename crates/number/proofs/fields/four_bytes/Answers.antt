@@ -1,6 +1,5 @@
 use Rattle.number.specs.Fields.{le32}
 use native.Mathlib.Omega.{arith}
-use borrow.Author.Rules.{rules}
 use Rattle.number.proofs.fields.four_bytes.Goals as goal
 
 pub returns : goal.returns

@@ -1,6 +1,5 @@
 use Rattle.number.specs.Fields.{le16}
 use native.Mathlib.Omega.{arith}
-use borrow.Author.Rules.{rules}
 use Rattle.number.proofs.fields.two_bytes.Goals as goal
 
 pub returns : goal.returns

@@ -1,6 +1,5 @@
 -- `number::marks::has_bit` meets its contract. Assumes nothing.
 use mathlib.Core.Path.{refl}
-use borrow.Author.Rules.{rules}
 use Rattle.number.specs.Fields.{test_bit}
 use Rattle.number.proofs.marks.has_bit.Goals as goal
 

@@ -2,7 +2,6 @@
 use native.Mathlib.Omega.{arith}
 use Prim.Native.Nat.{◌/◌}
 use Rattle.number.proofs.MarkLaws.{mark_set}
-use borrow.Author.Rules.{rules}
 use Rattle.number.proofs.marks.set_mark.Goals as goal
 
 pub returns : goal.returns

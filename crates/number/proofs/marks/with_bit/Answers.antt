@@ -1,7 +1,6 @@
 -- `number::marks::with_bit` meets its contract. Assumes nothing.
 use native.Mathlib.Omega.{arith}
 use lib.Pow.{pow-lt}
-use borrow.Author.Rules.{rules}
 use Rattle.number.proofs.marks.with_bit.Goals as goal
 
 pub overflow_add-result : goal.overflow_add-result

@@ -1,5 +1,4 @@
 use Rattle.number.specs.Ranges.{fits}
-use borrow.Author.Rules.{rules}
 use Rattle.number.proofs.ranges.fits_in.Goals as goal
 
 pub returns : goal.returns

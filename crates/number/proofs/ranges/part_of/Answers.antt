@@ -2,7 +2,6 @@ use native.Mathlib.Omega.{arith}
 use native.Mathlib.Nat.{add-sub_cancel_left}
 use Rattle.number.proofs.ListLaws.{part_past, part_rest}
 use Rattle.number.specs.Ranges.{part}
-use borrow.Author.Rules.{rules}
 use Rattle.number.proofs.ranges.part_of.Goals as goal
 
 pub returns-then-s-start : goal.returns-then-s-start

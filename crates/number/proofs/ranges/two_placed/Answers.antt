@@ -1,5 +1,4 @@
 use Rattle.number.specs.Ranges.{placed, clear}
-use borrow.Author.Rules.{rules}
 use Rattle.number.proofs.ranges.two_placed.Goals as goal
 
 pub returns : goal.returns

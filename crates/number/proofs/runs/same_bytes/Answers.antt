@@ -1,9 +1,6 @@
-use Prim.Native.Nat.{◌≤◌, ◌-◌}
 use mathlib.Core.Bool.{◌&&◌, and-true}
-use mathlib.Core.Path.{◌≡◌, refl, sym, ap, ◌∙◌}
+use mathlib.Core.Path.{refl, sym, ap, ◌∙◌}
 use native.Mathlib.Omega.{arith}
-use lib.ListN.{length, drop}
-use Rattle.number.specs.Bytes.{same_bytes}
 use Rattle.number.proofs.ListLaws.{same_lengths, same_turn, same_end}
 use Rattle.number.proofs.runs.same_bytes.Goals as goal
 

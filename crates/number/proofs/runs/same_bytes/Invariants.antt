@@ -1,12 +1,10 @@
 -- `same_bytes` meets its contract. The loop's invariant: the bytes passed were the same, and what is left of the two slices is, or the slices are
 -- not. The measure is what is left. Assumes nothing.
 use Prim.Native.Nat.{◌≤◌, ◌-◌}
-use mathlib.Core.Bool.{◌&&◌, and-true}
-use mathlib.Core.Path.{◌≡◌, refl, sym, ap, ◌∙◌}
-use native.Mathlib.Omega.{arith}
+use mathlib.Core.Bool.{◌&&◌}
+use mathlib.Core.Path.{◌≡◌}
 use lib.ListN.{length, drop}
 use Rattle.number.specs.Bytes.{same_bytes}
-use Rattle.number.proofs.ListLaws.{same_lengths, same_turn, same_end}
 use Rattle.number.proofs.runs.same_bytes.Given as goal
 
 abbrev pub invariant-loop-i : goal.invariant-loop-i

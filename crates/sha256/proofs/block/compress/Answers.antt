@@ -1,5 +1,4 @@
 -- `compress`: 64 rounds, and the sums.
-use borrow.Author.Rules.{rules}
 use Rattle.sha256.proofs.Schedules.{compress_is}
 use Rattle.sha256.proofs.block.compress.Goals as goal
 

@@ -1,11 +1,8 @@
 -- `hash_blocks`: after i turns the hash value is that of the first i blocks.
-use mathlib.Core.Path.{◌≡◌, refl, ap, ◌∙◌}
-use Prim.Native.Nat.{ℕ, ◌-◌, ◌/◌, ◌≤◌}
-use native.Mathlib.Omega.{arith}
-use borrow.Author.Rules.{rules}
+use mathlib.Core.Path.{◌≡◌}
+use Prim.Native.Nat.{◌-◌, ◌/◌, ◌≤◌}
 use lib.ListN.{length}
 use Rattle.sha256.specs.Sha256.{hashed}
-use Rattle.sha256.proofs.Padding.{block_length_lem, block_more}
 use Rattle.sha256.proofs.block.hash_blocks.Given as goal
 
 abbrev pub invariant-loop-i : goal.invariant-loop-i

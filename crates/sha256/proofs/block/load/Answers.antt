@@ -1,5 +1,4 @@
 -- `load`: the first sixteen words of the schedule are the block's.
-use borrow.Author.Rules.{rules}
 use Rattle.sha256.specs.Sha256.{words}
 use mathlib.Core.Path.{◌∙◌}
 use lib.Dec.{lit<}

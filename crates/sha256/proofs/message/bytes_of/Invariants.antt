@@ -1,12 +1,8 @@
 -- `bytes_of`: after i turns the first 4 i bytes are those of the first i words.
-use mathlib.Core.Path.{◌≡◌, refl, sym, ap, ◌∙◌}
+use mathlib.Core.Path.{◌≡◌}
 use Prim.Native.Nat.{◌-◌, ◌*◌, ◌≤◌}
-use native.Mathlib.Omega.{arith}
-use borrow.Author.Rules.{rules}
-use lib.ListN.{length, take, length-set}
-use lib.Seq.{take_all}
+use lib.ListN.{length, take}
 use Rattle.sha256.specs.Sha256.{digest_bytes}
-use Rattle.sha256.proofs.Padding.{digest_bytes_more}
 use Rattle.sha256.proofs.message.bytes_of.Given as goal
 
 abbrev pub invariant-loop-i : goal.invariant-loop-i

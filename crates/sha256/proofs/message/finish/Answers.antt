@@ -1,7 +1,6 @@
 -- `finish`: the last block, or the last two, are the tail and its padding.
 use native.Mathlib.Omega.{arith}
 use Rattle.sha256.proofs.Padding.{finish_short, finish_long}
-use borrow.Author.Rules.{rules}
 use Rattle.sha256.proofs.message.finish.Goals as goal
 
 pub returns-then-tail-lt56 : goal.returns-then-tail-lt56

@@ -1,5 +1,4 @@
 -- `with_length`: eight stores are the 64 bits of eight times the total.
-use borrow.Author.Rules.{rules}
 use Rattle.sha256.proofs.Padding.{length_stored}
 use Rattle.sha256.proofs.message.with_length.Goals as goal
 

@@ -1,7 +1,6 @@
 -- `with_one`: the tail is stored over zeros, and the byte with the one bit after it.
 use mathlib.Core.Path.{◌∙◌}
 use native.Mathlib.Omega.{arith}
-use borrow.Author.Rules.{rules}
 use Rattle.number.proofs.ListLaws.{over_zeros, byte_over_zeros}
 use Rattle.sha256.proofs.message.with_one.Goals as goal
 

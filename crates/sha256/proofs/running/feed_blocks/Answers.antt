@@ -2,7 +2,6 @@
 use mathlib.Core.Path.{refl}
 use native.Mathlib.Omega.{arith}
 use Rattle.sha256.proofs.Pieces.{absorb_blocks}
-use borrow.Author.Rules.{rules}
 use Rattle.sha256.proofs.running.feed_blocks.Goals as goal
 
 pub returns : goal.returns

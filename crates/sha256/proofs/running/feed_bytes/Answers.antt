@@ -1,10 +1,8 @@
-use mathlib.Core.Path.{◌≡◌, refl, ◌∙◌}
-use mathlib.Core.List.{List, ◌++◌}
-use Prim.Native.Nat.{ℕ, ◌+◌, ◌-◌, ◌%◌, ◌≤◌, ◌<◌}
+use mathlib.Core.Path.{refl, ◌∙◌}
+use mathlib.Core.List.{◌++◌}
+use Prim.Native.Nat.{◌+◌}
 use native.Mathlib.Omega.{arith}
-use borrow.Author.Rules.{rules}
-use lib.ListN.{length, take, get_or, length-set}
-use Rattle.sha256.specs.Running.{Absorbed}
+use lib.ListN.{take, get_or, length-set}
 use Rattle.sha256.proofs.Padding.{one_block}
 use Rattle.sha256.proofs.Pieces.{one_more, fed_none, fed_more, fed_full, fed_done}
 use Rattle.sha256.proofs.running.feed_bytes.Goals as goal

@@ -1,13 +1,9 @@
 -- `feed_bytes`: after i turns the first i bytes of the piece are absorbed.
-use mathlib.Core.Path.{◌≡◌, refl, ◌∙◌}
+use mathlib.Core.Path.{◌≡◌}
 use mathlib.Core.List.{List, ◌++◌}
-use Prim.Native.Nat.{ℕ, ◌+◌, ◌-◌, ◌%◌, ◌≤◌, ◌<◌}
-use native.Mathlib.Omega.{arith}
-use borrow.Author.Rules.{rules}
-use lib.ListN.{length, take, get_or, length-set}
+use Prim.Native.Nat.{ℕ, ◌-◌, ◌%◌, ◌≤◌, ◌<◌}
+use lib.ListN.{length, take}
 use Rattle.sha256.specs.Running.{Absorbed}
-use Rattle.sha256.proofs.Padding.{one_block}
-use Rattle.sha256.proofs.Pieces.{one_more, fed_none, fed_more, fed_full, fed_done}
 use Rattle.sha256.proofs.running.feed_bytes.Given as goal
 
 abbrev pub invariant-loop-i : goal.invariant-loop-i

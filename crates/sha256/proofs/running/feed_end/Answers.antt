@@ -1,5 +1,4 @@
 -- `feed_end` is `feed_bytes` on the fields.
-use borrow.Author.Rules.{rules}
 use Rattle.sha256.proofs.running.feed_end.Goals as goal
 
 pub returns : goal.returns

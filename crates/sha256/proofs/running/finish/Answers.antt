@@ -1,5 +1,4 @@
 -- `finish` is `finish_at` on the fields.
-use borrow.Author.Rules.{rules}
 use Rattle.sha256.proofs.Pieces.{end_of}
 use Rattle.sha256.proofs.running.finish.Goals as goal
 

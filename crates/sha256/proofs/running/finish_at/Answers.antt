@@ -1,7 +1,6 @@
 -- `finish_at`: the digest of the whole blocks and the bytes after them.
 use mathlib.Core.Path.{sym}
 use native.Mathlib.Omega.{arith}
-use borrow.Author.Rules.{rules}
 use Rattle.sha256.proofs.Pieces.{tail_size}
 use Rattle.sha256.proofs.running.finish_at.Goals as goal
 

@@ -7,7 +7,6 @@ use lib.ListN.{length, take, drop, length-append}
 use lib.Seq.{length-take-le}
 use Rattle.sha256.proofs.Pieces.{middle_length, three}
 use Rattle.sha256.proofs.States.{Grows, grows_then, grows_holds, grows_state}
-use borrow.Author.Rules.{rules}
 use Rattle.sha256.proofs.running.update.Goals as goal
 
 pub returns-then-n-first : goal.returns-then-n-first
