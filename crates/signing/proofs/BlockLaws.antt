@@ -14,7 +14,7 @@ use Rattle.signing.specs.declared.Signer.{Signer}
 use Rattle.signing.specs.declared.Signer.TheVariants.{Card, Title, System, Extdata, Database}
 use Rattle.signing.specs.declared.ExtdataFile.TheVariants.{Quota, Device}
 use Rattle.signing.specs.declared.Shape.{Shape}
-use Rattle.signing.specs.Blocks.{laid_out, block, letters, fields, hashed, inner_block, tail_of, signing_block}
+use Rattle.signing.specs.Blocks.{laid_out, block, letters, fields, inner_block, tail_of, signing_block}
 use Rattle.signing.specs.Rules.{ShapeOf}
 
 -- ---- the tail

@@ -1,6 +1,5 @@
 -- `signatures::is_signed` meets its contract. Assumes nothing.
 use Rattle.signatures.proofs.Laws.{check_made}
-use borrow.Author.Rules.{rules}
 use Rattle.signatures.proofs.is_signed.Goals as goal
 
 pub returns : goal.returns

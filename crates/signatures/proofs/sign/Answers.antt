@@ -2,7 +2,6 @@
 use mathlib.Core.Path.{ap, ◌∙◌}
 use Rattle.cmac.specs.Cmac.{cmac}
 use Rattle.signatures.specs.Signatures.{signature}
-use borrow.Author.Rules.{rules}
 use Rattle.signatures.proofs.sign.Goals as goal
 
 pub returns : goal.returns

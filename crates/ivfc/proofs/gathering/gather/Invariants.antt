@@ -1,12 +1,9 @@
 -- `gather` meets its contract. The loop's invariant: as many bytes as are done are the level's. The measure is what is left. Assumes nothing.
 use Prim.Native.Nat.{◌≤◌, ◌-◌}
-use mathlib.Core.Path.{◌≡◌, refl, sym, ap, ◌∙◌}
-use native.Mathlib.Omega.{arith}
+use mathlib.Core.Path.{◌≡◌}
 use lib.ListN.{length, take}
-use lib.Seq.{take_all}
 use Rattle.number.specs.Bytes.{bytes}
 use Rattle.ivfc.specs.Views.{content_of}
-use Rattle.ivfc.proofs.ViewLaws.{level_small, gather_turn}
 use Rattle.ivfc.proofs.gathering.gather.Given as goal
 
 abbrev pub invariant-loop-done : goal.invariant-loop-done

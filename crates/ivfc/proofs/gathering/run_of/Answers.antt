@@ -4,7 +4,6 @@ use mathlib.Core.Path.{◌≡◌, ap}
 use mathlib.Core.Bool.{true}
 use native.Mathlib.Omega.{arith}
 use lib.Dec.{eqb}
-use borrow.Author.Rules.{rules}
 use borrow.Author.Tests.{eqb-true}
 use Rattle.number.specs.declared.Level.{Level}
 use Rattle.number.specs.Ranges.{part}
@@ -12,6 +11,7 @@ use Rattle.number.proofs.Tests.{and_left, and_right}
 use Rattle.ivfc.specs.Views.{level_of, content_of}
 use Rattle.ivfc.proofs.ViewLaws.{content_master, content_outer, content_inner, inner_test, inside_master, inside_outer, inside_inner, run_image, run_tree}
 use Rattle.ivfc.proofs.gathering.run_of.Goals as goal
+use Rattle.ivfc.proofs.gathering.run_of.Goals.{After-level_of-start}
 
 pub overflow_add-view : goal.overflow_add-view
 overflow_add-view c =
@@ -47,22 +47,22 @@ returns-then-i-view c =
     (omega (arith, inside_outer c.args.view _ c.requires.0 c.args.i four out)) c.requires.2 c.part_of-then-i-view.ensures
 
 -- where the level ends in DPFS level 3
-ends : (c : goal.After-level_of-start) → c.level_of-start.result.offset + c.args.end ≤ c.args.view.tree.level3.size
+ends : (c : After-level_of-start) → c.level_of-start.result.offset + c.args.end ≤ c.args.view.tree.level3.size
 ends c =
     let o : c.level_of-start.result.offset ≡ (level_of c.args.view c.args.i).offset = ap (λ (l : Level). l.offset) c.level_of-start.ensures in
     omega (arith, inside_inner c.args.view _ c.requires.0 c.args.i (omega arith) c.requires.1 (inner_test c.args.i c.args.view.external c.if-i-view.false))
 
 pub overflow_add-start : goal.overflow_add-start
 overflow_add-start c =
-    record { fits = omega (arith, ends c, c.requires.0.tree.inside3, c.requires.0.tree.limit) }
+    record { fits = omega (arith, ends (goal.at.overflow_add-start c).After-level_of-start, c.requires.0.tree.inside3, c.requires.0.tree.limit) }
 
 pub overflow_add-start-2 : goal.overflow_add-start-2
 overflow_add-start-2 c =
-    record { fits = omega (arith, ends c, c.requires.0.tree.inside3, c.requires.0.tree.limit) }
+    record { fits = omega (arith, ends (goal.at.overflow_add-start-2 c).After-level_of-start, c.requires.0.tree.inside3, c.requires.0.tree.limit) }
 
 pub run-requires : goal.run-requires
 run-requires c =
-    (c.requires.0.tree, omega arith, ends c)
+    (c.requires.0.tree, omega arith, ends (goal.at.run-requires c).After-level_of-start)
 
 pub returns : goal.returns
 returns c =

@@ -4,7 +4,6 @@ use mathlib.Core.Path.{ap, ◌∙◌}
 use mathlib.Core.List.{[]}
 use native.Mathlib.Omega.{arith}
 use lib.ListN.{length}
-use borrow.Author.Rules.{rules}
 use Rattle.number.specs.declared.Level.{Level}
 use Rattle.number.specs.Blocks.{block_size, block_length}
 use Rattle.number.proofs.BlockLaws.{exists_byte}
@@ -14,49 +13,52 @@ use Rattle.ivfc.specs.Views.{level_of, content_of}
 use Rattle.ivfc.proofs.ViewLaws.{level_small, Measured, measured}
 use Rattle.ivfc.proofs.FeedLaws.{fed_block}
 use Rattle.ivfc.proofs.hashing.digest_block.Goals as goal
+use Rattle.ivfc.proofs.hashing.digest_block.Goals.{After-level_of-level, After-block_length-own}
 
-log : (c : goal.After-level_of-level) → c.level_of-level.result.log ≤ 16
+log : (c : After-level_of-level) → c.level_of-level.result.log ≤ 16
 log c =
     rw c.level_of-level.ensures (c.requires.0.hash.logs c.args.i c.requires.1).1
 
 pub block_size-unit-requires : goal.block_size-unit-requires
-block_size-unit-requires c = omega (arith, log c)
+block_size-unit-requires c = omega (arith, log (goal.at.block_size-unit-requires c).After-level_of-level)
 
 pub block_length-own-requires : goal.block_length-own-requires
 block_length-own-requires c =
     let l : Level = level_of c.args.view c.args.i in
     let h : c.args.b * block_size l < l.size = exists_byte l c.args.b c.requires.2 in
-    (omega (arith, log c.before), rw c.level_of-level.ensures (omega arith))
+    (omega (arith, log (goal.at.block_length-own-requires c).After-level_of-level), rw c.level_of-level.ensures (omega arith))
 
-room : (c : goal.After-block_length-own) → Measured (level_of c.args.view c.args.i) c.args.b c.block_size-unit.result c.block_length-own.result
+room : (c : After-block_length-own) → Measured (level_of c.args.view c.args.i) c.args.b c.block_size-unit.result c.block_length-own.result
 room c =
     measured (level_of c.args.view c.args.i) c.args.b c.block_size-unit.result c.block_length-own.result c.requires.2
     (c.block_size-unit.ensures.0 ∙ ap block_size c.level_of-level.ensures)
     (c.block_length-own.ensures ∙ ap (λ (l : Level). block_length l c.args.b) c.level_of-level.ensures)
 
-small : (c : goal.After-block_length-own) → c.args.b * c.block_size-unit.result + c.block_length-own.result ≤ 0x4000000
+small : (c : After-block_length-own) → c.args.b * c.block_size-unit.result + c.block_length-own.result ≤ 0x4000000
 small c =
     omega (arith, (room c).inside, level_small c.args.view (length c.args.image.now) c.requires.0 c.args.i c.requires.1)
 
 pub overflow_mul-x : goal.overflow_mul-x
-overflow_mul-x c = record { fits = omega (arith, small c) }
+overflow_mul-x c = record { fits = omega (arith, small (goal.at.overflow_mul-x c).After-block_length-own) }
 
 pub overflow_add-x : goal.overflow_add-x
-overflow_add-x c = record { fits = omega (arith, small c.before) }
+overflow_add-x c = record { fits = omega (arith, small (goal.at.overflow_add-x c).After-block_length-own) }
 
 pub feed_level-fed-requires : goal.feed_level-fed-requires
 feed_level-fed-requires c =
-    (c.requires.0, c.requires.1, omega arith, (room c.before).inside, omega (arith, small c.before, c.start.ensures.holds.total))
+    let at = goal.at.feed_level-fed-requires c in
+    (c.requires.0, c.requires.1, omega arith, (room at.After-block_length-own).inside, omega (arith, small at.After-block_length-own, c.start.ensures.holds.total))
 
 pub overflow_sub-unit : goal.overflow_sub-unit
-overflow_sub-unit c = omega (arith, (room c.before.before).fits)
+overflow_sub-unit c = omega (arith, (room (goal.at.overflow_sub-unit c).After-block_length-own).fits)
 
 pub feed_zeros-requires : goal.feed_zeros-requires
 feed_zeros-requires c =
-    omega (arith, small c.before.before, (room c.before.before).size, log c.before.before.before.before, size_small c.level_of-level.result (log c.before.before.before.before), c.feed_level-fed.ensures.total_value, c.start.ensures.holds.total)
+    let at = goal.at.feed_zeros-requires c in
+    omega (arith, small at.After-block_length-own, (room at.After-block_length-own).size, log at.After-level_of-level, size_small c.level_of-level.result (log at.After-level_of-level), c.feed_level-fed.ensures.total_value, c.start.ensures.holds.total)
 
 pub returns : goal.returns
 returns c =
     let a = c.args in
     c.finish.ensures.by_index _ (c.feed_zeros.ensures _ (c.feed_level-fed.ensures.by_index [] c.start.ensures.holds))
-    ∙ ap sha256 (fed_block (level_of a.view a.i) (content_of a.view a.image.now a.i) a.b _ _ (room c.before.before.before.before))
+    ∙ ap sha256 (fed_block (level_of a.view a.i) (content_of a.view a.image.now a.i) a.b _ _ (room (goal.at.returns c).After-block_length-own))

@@ -4,7 +4,6 @@ use lib.ListN.{length, replicate}
 use lib.Seq.{sets, length-sets}
 use Rattle.ivfc.specs.Views.{level_of, content_of}
 use Rattle.ivfc.proofs.DigestLaws.{one_digest}
-use borrow.Author.Rules.{rules}
 use Rattle.ivfc.proofs.hashing.digest_one.Goals as goal
 
 pub returns : goal.returns

@@ -4,7 +4,6 @@ use mathlib.Core.Path.{ap}
 use mathlib.Core.Bool.{◌&&◌}
 use native.Mathlib.Omega.{arith}
 use lib.Dec.{leb}
-use borrow.Author.Rules.{rules}
 use Rattle.ivfc.proofs.DigestLaws.{eight_small}
 use Rattle.ivfc.proofs.hashing.eight_whole.Goals as goal
 

@@ -1,12 +1,10 @@
 -- `feed_level` meets its contract. The loop's invariant: what was fed is the message and the level's bytes from x up to `at`. Assumes nothing.
 use Prim.Native.Nat.{ℕ, ◌≤◌, ◌-◌, ◌+◌}
-use mathlib.Core.Path.{◌≡◌, subst}
+use mathlib.Core.Path.{◌≡◌}
 use mathlib.Core.List.{List, ◌++◌}
-use native.Mathlib.Omega.{arith}
 use Rattle.number.specs.Bytes.{bytes}
 use Rattle.sha256.specs.Running.{Holds}
 use Rattle.ivfc.specs.Views.{content_of}
-use Rattle.ivfc.proofs.FeedLaws.{fed_run, fed_none}
 use Rattle.ivfc.proofs.hashing.feed_level.Given as goal
 
 abbrev pub invariant-loop-at : goal.invariant-loop-at

@@ -1,4 +1,4 @@
-use Prim.Native.Nat.{ℕ, ◌≤◌, ◌-◌, ◌+◌}
+use Prim.Native.Nat.{ℕ, ◌-◌}
 use mathlib.Core.Path.{◌≡◌, refl, sym, ap, subst, ◌∙◌}
 use mathlib.Core.List.{List, ◌++◌, append-nil}
 use native.Mathlib.Omega.{arith}
@@ -32,7 +32,7 @@ loop-left-preserved c =
       refl,
       omega arith,
       omega (arith, c.update-next.ensures.total_value),
-      λ m h. subst (λ (k : List ℕ). Holds c.update-next.result k) (fed_zeros m (n - l.false) 64 (n - (l.false - 64)) (omega arith))
+      λ m h. subst (λ (k : List ℕ). Holds c.update-next.result k) (fed_zeros m (n - l.left) 64 (n - (l.left - 64)) (omega arith))
           (c.update-next.ensures.by_index _ (l.invariant.3 m h)),
     )
 
@@ -42,17 +42,17 @@ slice_bounds-zeros-end c = omega arith
 pub slice_bounds-update-end-2 : goal.slice_bounds-update-end-2
 slice_bounds-update-end-2 c =
     let l = c.loop-left in
-    sym (ap length (take_zeros 64 l.false (omega arith)) ∙ length-replicate l.false 0)
+    sym (ap length (take_zeros 64 l.left (omega arith)) ∙ length-replicate l.left 0)
 
 pub update-requires : goal.update-requires
 update-requires c =
     let l = c.loop-left in
-    rw (take_zeros 64 l.false (omega arith), length-replicate {A = ℕ} l.false 0) (omega arith)
+    rw (take_zeros 64 l.left (omega arith), length-replicate {A = ℕ} l.left 0) (omega arith)
 
 pub returns : goal.returns
 returns c =
     let l = c.loop-left in
     let n = c.args.n in
     λ m h. subst (λ (k : List ℕ). Holds c.update.result k)
-    (ap (λ (z : List ℕ). (m ++ replicate (n - l.false) 0) ++ z) (take_zeros 64 l.false (omega arith)) ∙ fed_zeros m (n - l.false) l.false n (omega arith))
+    (ap (λ (z : List ℕ). (m ++ replicate (n - l.left) 0) ++ z) (take_zeros 64 l.left (omega arith)) ∙ fed_zeros m (n - l.left) l.left n (omega arith))
     (c.update.ensures.by_index _ (l.invariant.3 m h))

@@ -1,12 +1,9 @@
 -- `feed_zeros` meets its contract. The loop's invariant: all but the zeros that are left were fed. Assumes nothing.
 use Prim.Native.Nat.{ℕ, ◌≤◌, ◌-◌, ◌+◌}
-use mathlib.Core.Path.{◌≡◌, refl, sym, ap, subst, ◌∙◌}
-use mathlib.Core.List.{List, ◌++◌, append-nil}
-use native.Mathlib.Omega.{arith}
-use lib.ListN.{length, replicate, length-replicate}
+use mathlib.Core.Path.{◌≡◌}
+use mathlib.Core.List.{List, ◌++◌}
+use lib.ListN.{replicate}
 use Rattle.sha256.specs.Running.{Holds}
-use Rattle.number.proofs.ListLaws.{take_zeros}
-use Rattle.ivfc.proofs.FeedLaws.{fed_zeros}
 use Rattle.ivfc.proofs.hashing.feed_zeros.Given as goal
 
 abbrev pub invariant-loop-left : goal.invariant-loop-left

@@ -4,7 +4,6 @@ use native.Mathlib.Omega.{arith}
 use Rattle.ivfc.specs.Views.{matches}
 use Rattle.ivfc.proofs.ViewLaws.{block_small}
 use Rattle.ivfc.proofs.RowLaws.{first_alone}
-use borrow.Author.Rules.{rules}
 use Rattle.ivfc.proofs.matching.block_matches.Goals as goal
 
 pub overflow_add-b : goal.overflow_add-b

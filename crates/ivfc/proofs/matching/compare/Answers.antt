@@ -1,23 +1,20 @@
-use Prim.Native.Nat.{ℕ, ◌+◌, ◌-◌, ◌*◌, ◌≤◌, ◌<◌}
+use Prim.Native.Nat.{ℕ, ◌+◌, ◌-◌, ◌*◌, ◌<◌}
 use mathlib.Core.Path.{◌≡◌, refl, sym, ap, ◌∙◌}
 use mathlib.Core.List.{List}
 use native.Mathlib.Omega.{arith}
 use native.Mathlib.Decide.{ℕ_discrete}
-use lib.ListN.{length, take, drop, get_or, set, replicate, length-set}
+use lib.ListN.{take, drop, get_or, set, replicate, length-set}
 use lib.Seq.{get_or-set_same, get_or-set_other}
 use lib.Dec.{eqb}
 use mir.Val.{bool_byte}
 use mathlib.Core.Bool.{Bool, false, ◌&&◌}
-use borrow.Author.Rules.{rules}
 use Rattle.ivfc.specs.Verified.{vouches, first_not, count_of}
 use Rattle.ivfc.specs.Rows.{agree}
 use Rattle.ivfc.proofs.LowestLaws.{count_le, count_step}
 use Rattle.ivfc.proofs.RowLaws.{first_to, first_one_more}
+use Rattle.ivfc.proofs.matching.compare.Invariants.{Verdicts}
 use Rattle.ivfc.proofs.matching.compare.Goals as goal
-
--- which of the first n are accepted, of eight
-abbrev Verdicts : (ℕ → Bool) → ℕ → List Bool → Type 0
-Verdicts P n each = (length each ≡ 8) × ((k : ℕ) → k < n → get_or each k false ≡ P k)
+use Rattle.ivfc.proofs.matching.compare.Goals.{After-entry_vouches-same}
 
 no_verdicts : (P : ℕ → Bool) → Verdicts P 0 (replicate 8 false)
 no_verdicts P = (refl, λ k h. absurd (omega arith))
@@ -35,7 +32,7 @@ unfolding first_not count_of
 loop-j-init c = (omega arith, refl, refl, no_verdicts _)
 
 -- the turn's answer, and the two sums
-said : (c : goal.After-entry_vouches-same) → let a = c.args in
+said : (c : After-entry_vouches-same) → let a = c.args in
     c.entry_vouches-same.result ≡ agree a.digests.now a.entries.now c.loop-j.j
 unfolding agree
 said c =
@@ -44,12 +41,12 @@ said c =
     let d : j * 32 + 32 - j * 32 ≡ 32 = omega arith in
     c.entry_vouches-same.ensures ∙ ap (λ (n : ℕ). vouches (take n (drop (j * 32) a.digests.now)) (take n (drop (j * 32) a.entries.now))) d
 
-before-is : (c : goal.After-entry_vouches-same) → let a = c.args in
+before-is : (c : After-entry_vouches-same) → let a = c.args in
     let l = c.loop-j in
     l.before + bool_byte (c.entry_vouches-same.result && eqb l.before l.j) ≡ first_not (agree a.digests.now a.entries.now) 0 (l.j + 1)
 before-is c = first_one_more _ _ _ _ c.loop-j.invariant.1 (said c)
 
-matching-is : (c : goal.After-entry_vouches-same) → let a = c.args in
+matching-is : (c : After-entry_vouches-same) → let a = c.args in
     let l = c.loop-j in
     l.matching + bool_byte c.entry_vouches-same.result ≡ count_of (agree a.digests.now a.entries.now) (l.j + 1)
 matching-is c =
@@ -58,12 +55,12 @@ matching-is c =
 pub overflow_add-before : goal.overflow_add-before
 overflow_add-before c =
     let a = c.args in
-    record { fits = omega (arith, before-is c, first_to (agree a.digests.now a.entries.now) 0 (c.loop-j.j + 1)) }
+    record { fits = omega (arith, before-is (goal.at.overflow_add-before c).After-entry_vouches-same, first_to (agree a.digests.now a.entries.now) 0 (c.loop-j.j + 1)) }
 
 pub overflow_add-matching : goal.overflow_add-matching
 overflow_add-matching c =
     let a = c.args in
-    record { fits = omega (arith, matching-is c, count_le (agree a.digests.now a.entries.now) (c.loop-j.j + 1)) }
+    record { fits = omega (arith, matching-is (goal.at.overflow_add-matching c).After-entry_vouches-same, count_le (agree a.digests.now a.entries.now) (c.loop-j.j + 1)) }
 
 pub bounds-each-j : goal.bounds-each-j
 bounds-each-j c = omega (arith, c.requires.2)
@@ -71,7 +68,7 @@ bounds-each-j c = omega (arith, c.requires.2)
 pub loop-j-preserved : goal.loop-j-preserved
 loop-j-preserved c =
     let l = c.loop-j in
-    (omega arith, before-is c, matching-is c, one_verdict _ l.j l.each _ (omega (arith, c.requires.2)) l.invariant.3 (said c))
+    (omega arith, before-is (goal.at.loop-j-preserved c).After-entry_vouches-same, matching-is (goal.at.loop-j-preserved c).After-entry_vouches-same, one_verdict _ l.j l.each _ (omega (arith, c.requires.2)) l.invariant.3 (said (goal.at.loop-j-preserved c).After-entry_vouches-same))
 
 pub returns : goal.returns
 returns c =

@@ -4,7 +4,6 @@ use mathlib.Core.Path.{◌≡◌, sym, ap, ◌∙◌}
 use mathlib.Core.List.{List, ◌++◌}
 use native.Mathlib.Omega.{arith}
 use native.Mathlib.Nat.{mul_comm}
-use borrow.Author.Rules.{rules}
 use lib.ListN.{length, take, drop, replicate}
 use lib.Seq.{length-take-le}
 use Rattle.number.specs.declared.Level.{Level}
@@ -14,19 +13,20 @@ use Rattle.ivfc.specs.Views.{level_of, content_of}
 use Rattle.ivfc.proofs.ViewLaws.{level_small}
 use Rattle.ivfc.proofs.DigestLaws.{row_fits, row_length, row_entries, agrees, row_before, row_matching, entries_above}
 use Rattle.ivfc.proofs.matching.compare_from.Goals as goal
+use Rattle.ivfc.proofs.matching.compare_from.Goals.{After-digests_from-digests, After-gather}
 
 -- how many bytes the digests and the entries have
-abbrev size : goal.After-digests_from-digests → ℕ
+abbrev size : After-digests_from-digests → ℕ
 size c = c.digests_from-digests.result.count * 32
 
-few : (c : goal.After-digests_from-digests) → size c ≤ 256
+few : (c : After-digests_from-digests) → size c ≤ 256
 few c = omega (arith, c.digests_from-digests.ensures.count_nonzero.1)
 
-zeros : (c : goal.After-digests_from-digests) → length {A = ℕ} (take (size c) (replicate 256 0)) ≡ size c
+zeros : (c : After-digests_from-digests) → length {A = ℕ} (take (size c) (replicate 256 0)) ≡ size c
 zeros c = length-take-le {A = ℕ} (size c) (replicate 256 0) (few c)
 
 -- the entries are there
-inside : (c : goal.After-digests_from-digests)
+inside : (c : After-digests_from-digests)
     → (c.args.b * 32 + size c ≤ (level_of c.args.view (c.args.i - 1)).size)
     × ((level_of c.args.view (c.args.i - 1)).size ≤ 0x4000000)
 inside c =
@@ -36,60 +36,66 @@ inside c =
     )
 
 pub overflow_mul-b : goal.overflow_mul-b
-overflow_mul-b c = record { fits = omega (arith, inside c.before) }
+overflow_mul-b c = record { fits = omega (arith, inside (goal.at.overflow_mul-b c).After-digests_from-digests) }
 
 pub slice_bounds-entries-end : goal.slice_bounds-entries-end
-slice_bounds-entries-end c = few c.before
+slice_bounds-entries-end c = few (goal.at.slice_bounds-entries-end c).After-digests_from-digests
 
 pub slice_bounds-gather-end : goal.slice_bounds-gather-end
-slice_bounds-gather-end c = sym (zeros c.before.before)
+slice_bounds-gather-end c = sym (zeros (goal.at.slice_bounds-gather-end c).After-digests_from-digests)
 
 pub gather-requires : goal.gather-requires
 gather-requires c =
-    (c.requires.0, omega arith, rw (zeros c.before.before) (omega (arith, inside c.before.before)))
+    let at = (goal.at.gather-requires c).After-digests_from-digests in
+    (c.requires.0, omega arith, rw (zeros at) (omega (arith, inside at)))
 
-hashes-long : (c : goal.After-digests_from-digests) → length (take (size c) c.digests_from-digests.result.bytes) ≡ size c
+hashes-long : (c : After-digests_from-digests) → length (take (size c) c.digests_from-digests.result.bytes) ≡ size c
 hashes-long c = length-take-le (size c) c.digests_from-digests.result.bytes (omega (arith, few c, c.digests_from-digests.ensures.count_nonzero.3))
 
 pub slice_bounds-compare-end : goal.slice_bounds-compare-end
-slice_bounds-compare-end c = sym (hashes-long c.before.before.before.before.before)
+slice_bounds-compare-end c = sym (hashes-long (goal.at.slice_bounds-compare-end c).After-digests_from-digests)
 
 pub slice_bounds-entries-end-2 : goal.slice_bounds-entries-end-2
 slice_bounds-entries-end-2 c =
-    row_fits _ (replicate 256 0) c.gather.new.1.1.1.1.0 _ (few c.before.before.before.before.before)
-    c.gather.auto.1.1.1.1.0
+    row_fits _ (replicate 256 0) c.gather.new.buffer _ (few (goal.at.slice_bounds-entries-end-2 c).After-digests_from-digests)
+    c.gather.auto.buffer
 
 -- the part of the buffer that is compared
-abbrev part : goal.After-entries-3-1 → List ℕ
+abbrev part : After-gather → List ℕ
 part c =
-    take (size c.before.before.before.before.before.before)
-    (c.gather.new.1.1.1.1.0 ++ drop (size c.before.before.before.before.before.before) (replicate 256 0))
+    take (c.digests_from-digests.result.count * 32)
+    (c.gather.new.buffer ++ drop (c.digests_from-digests.result.count * 32) (replicate 256 0))
 
-part-long : (c : goal.After-entries-3-1) → length (part c) ≡ size c.before.before.before.before.before.before
-part-long c =
-    row_length _ (replicate 256 0) c.gather.new.1.1.1.1.0 _ (few c.before.before.before.before.before.before)
-    c.gather.auto.1.1.1.1.0
+part-long : (c : After-gather) → c.digests_from-digests.result.count * 32 ≤ 256 → length (part c) ≡ c.digests_from-digests.result.count * 32
+part-long c h =
+    row_length _ (replicate 256 0) c.gather.new.buffer _ h
+    c.gather.auto.buffer
 
-part-is : (c : goal.After-entries-3-1) → let a = c.args in
-    part c ≡ bytes (content_of a.view a.image.now (a.i - 1)) (a.b * 32) (size c.before.before.before.before.before.before)
-part-is c =
-    row_entries _ (replicate 256 0) c.gather.new.1.1.1.1.0 _ (few c.before.before.before.before.before.before)
-    c.gather.auto.1.1.1.1.0 _ _ c.gather.ensures
+part-is : (c : After-gather) → c.digests_from-digests.result.count * 32 ≤ 256 → let a = c.args in
+    part c ≡ bytes (content_of a.view a.image.now (a.i - 1)) (a.b * 32) (c.digests_from-digests.result.count * 32)
+part-is c h =
+    row_entries _ (replicate 256 0) c.gather.new.buffer _ h
+    c.gather.auto.buffer _ _ c.gather.ensures
 
 pub slice_bounds-compare-end-2 : goal.slice_bounds-compare-end-2
-slice_bounds-compare-end-2 c = sym (part-long c)
+slice_bounds-compare-end-2 c =
+    let at = goal.at.slice_bounds-compare-end-2 c in
+    sym (part-long at.After-gather (few at.After-digests_from-digests))
 
 pub compare-requires : goal.compare-requires
 compare-requires c =
-    let n = c.digests_from-digests.result.count in (
-      hashes-long c.before.before.before.before.before.before ∙ mul_comm n 32,
-      part-long c ∙ mul_comm n 32,
+    let n = c.digests_from-digests.result.count in
+    let at = goal.at.compare-requires c in (
+      hashes-long at.After-digests_from-digests ∙ mul_comm n 32,
+      part-long at.After-gather (few at.After-digests_from-digests) ∙ mul_comm n 32,
       c.digests_from-digests.ensures.count_nonzero.1,
     )
 
 pub returns : goal.returns
 returns c =
     let d = c.digests_from-digests in
+    let at = goal.at.returns c in
+    let entries = part-is at.After-gather (few at.After-digests_from-digests) in
     let levels : ℕ → Level = level_of c.args.view in
     let content : ℕ → ℕ → ℕ = content_of c.args.view c.args.image.now in
     let (some, most, ends, long) = d.ensures.count_nonzero in
@@ -99,12 +105,12 @@ returns c =
       hashed_nonzero = (
         omega arith,
         omega arith,
-        row_before levels content c.args.i c.args.b d.result.count _ _ c.requires.1 hashes (part-is c.before) _ _ n before,
+        row_before levels content c.args.i c.args.b d.result.count _ _ c.requires.1 hashes entries _ _ n before,
         omega (arith, n, most),
         c.compare.ensures.each_len.0,
         λ j k.
             c.compare.ensures.each_len.1 j (omega (arith, n, k))
-            ∙ agrees levels content c.args.i c.args.b d.result.count _ _ c.requires.1 hashes (part-is c.before) j (omega (arith, n, k)),
+            ∙ agrees levels content c.args.i c.args.b d.result.count _ _ c.requires.1 hashes entries j (omega (arith, n, k)),
       );
-      matching_value = row_matching levels content c.args.i c.args.b d.result.count _ _ c.requires.1 hashes (part-is c.before) _ _ n matching;
+      matching_value = row_matching levels content c.args.i c.args.b d.result.count _ _ c.requires.1 hashes entries _ _ n matching;
     }

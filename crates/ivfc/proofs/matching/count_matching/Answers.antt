@@ -1,4 +1,4 @@
-use Prim.Native.Nat.{ℕ, ◌+◌, ◌-◌, ◌≤◌}
+use Prim.Native.Nat.{ℕ, ◌+◌, ◌-◌}
 use mathlib.Core.Path.{◌≡◌, refl, ap, ◌∙◌}
 use native.Mathlib.Omega.{arith}
 use Rattle.ivfc.specs.Verified.{count_of}
@@ -6,6 +6,7 @@ use Rattle.ivfc.specs.Views.{matches}
 use Rattle.ivfc.proofs.LowestLaws.{count_le}
 use Rattle.ivfc.proofs.RowLaws.{count_more}
 use Rattle.ivfc.proofs.matching.count_matching.Goals as goal
+use Rattle.ivfc.proofs.matching.count_matching.Goals.{After-compare_from-compared}
 
 pub loop-b-init : goal.loop-b-init
 unfolding count_of
@@ -19,7 +20,7 @@ compare_from-compared-requires c =
     (c.requires.0, c.requires.1, c.requires.2, c.loop-b-test.true, c.requires.4)
 
 -- what was counted, with the row
-more : (c : goal.After-struct_known-1) → let a = c.args in
+more : (c : After-compare_from-compared) → let a = c.args in
     let l = c.loop-b in
     let r = c.compare_from-compared.result in
     l.count + r.matching ≡ count_of (λ (j : ℕ). matches a.view a.image.now a.i (a.first + j)) (l.b + r.hashed - a.first)
@@ -44,7 +45,7 @@ pub loop-b-smaller : goal.loop-b-smaller
 loop-b-smaller c = omega (arith, c.compare_from-compared.ensures.hashed_nonzero.0, c.compare_from-compared.ensures.hashed_nonzero.1)
 
 pub loop-b-preserved : goal.loop-b-preserved
-loop-b-preserved c = (omega arith, c.compare_from-compared.ensures.hashed_nonzero.1, more c.before)
+loop-b-preserved c = (omega arith, c.compare_from-compared.ensures.hashed_nonzero.1, more (goal.at.loop-b-preserved c).After-compare_from-compared)
 
 pub returns : goal.returns
 returns c =

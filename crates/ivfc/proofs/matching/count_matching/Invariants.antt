@@ -1,12 +1,9 @@
 -- `count_matching` meets its contract. The loop's invariant: `count` of the blocks from `first` up to b match. The measure is how many are left.
 -- Assumes nothing.
 use Prim.Native.Nat.{ℕ, ◌+◌, ◌-◌, ◌≤◌}
-use mathlib.Core.Path.{◌≡◌, refl, ap, ◌∙◌}
-use native.Mathlib.Omega.{arith}
+use mathlib.Core.Path.{◌≡◌}
 use Rattle.ivfc.specs.Verified.{count_of}
 use Rattle.ivfc.specs.Views.{matches}
-use Rattle.ivfc.proofs.LowestLaws.{count_le}
-use Rattle.ivfc.proofs.RowLaws.{count_more}
 use Rattle.ivfc.proofs.matching.count_matching.Given as goal
 
 abbrev pub invariant-loop-b : goal.invariant-loop-b

@@ -1,5 +1,4 @@
 -- `entry_vouches` is the comparison of the two slices, and of the entry with zeros. Assumes nothing.
-use borrow.Author.Rules.{rules}
 use Rattle.ivfc.specs.Verified.{vouches}
 use Rattle.ivfc.proofs.matching.entry_vouches.Goals as goal
 

@@ -1,7 +1,5 @@
-use Prim.Native.Nat.{◌-◌, ◌≤◌}
-use mathlib.Core.Path.{◌≡◌, refl, sym, ◌∙◌}
+use mathlib.Core.Path.{refl, sym, ◌∙◌}
 use native.Mathlib.Omega.{arith}
-use Rattle.ivfc.specs.Verified.{first_not}
 use Rattle.ivfc.specs.Views.{matches}
 use Rattle.ivfc.proofs.RowLaws.{first_to, row_passed, row_stops, first_none}
 use Rattle.ivfc.proofs.matching.first_mismatch.Goals as goal

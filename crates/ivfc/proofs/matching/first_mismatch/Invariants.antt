@@ -1,11 +1,9 @@
 -- `first_mismatch` meets its contract. The loop's invariant: all blocks before b match, so the search from b on answers for the whole. The measure
 -- is how many are left. Assumes nothing.
 use Prim.Native.Nat.{◌-◌, ◌≤◌}
-use mathlib.Core.Path.{◌≡◌, refl, sym, ◌∙◌}
-use native.Mathlib.Omega.{arith}
+use mathlib.Core.Path.{◌≡◌}
 use Rattle.ivfc.specs.Verified.{first_not}
 use Rattle.ivfc.specs.Views.{matches}
-use Rattle.ivfc.proofs.RowLaws.{first_to, row_passed, row_stops, first_none}
 use Rattle.ivfc.proofs.matching.first_mismatch.Given as goal
 
 abbrev pub invariant-loop-b : goal.invariant-loop-b

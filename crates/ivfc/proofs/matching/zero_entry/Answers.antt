@@ -1,5 +1,4 @@
 -- `zero_entry` compares with 32 zeros. Assumes nothing.
-use borrow.Author.Rules.{rules}
 use Rattle.ivfc.specs.Verified.{zero_entry}
 use Rattle.ivfc.proofs.matching.zero_entry.Goals as goal
 

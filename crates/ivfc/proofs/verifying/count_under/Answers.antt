@@ -2,7 +2,6 @@
 use mathlib.Core.Path.{◌≡◌, ap, ap₂, ◌∙◌}
 use Prim.Native.Nat.{ℕ, suc, ◌+◌, ◌-◌, ◌^◌, ◌≤◌, ◌<◌, min, max}
 use native.Mathlib.Omega.{arith}
-use borrow.Author.Rules.{rules}
 use Rattle.number.specs.declared.Level.{Level}
 use Rattle.number.specs.Blocks.{blocks}
 use Rattle.ivfc.specs.Blocks.{child}
@@ -10,38 +9,39 @@ use Rattle.ivfc.specs.Verified.{count_of}
 use Rattle.ivfc.specs.Views.{level_of, matches}
 use Rattle.ivfc.proofs.JudgeLaws.{child_mono, blocks_small}
 use Rattle.ivfc.proofs.verifying.count_under.Goals as goal
+use Rattle.ivfc.proofs.verifying.count_under.Goals.{After-block_count-last}
 
 -- how many blocks level 4 has
-count : (c : goal.After-block_count-last) → c.block_count-last.result ≡ blocks (level_of c.args.view 4)
+count : (c : After-block_count-last) → c.block_count-last.result ≡ blocks (level_of c.args.view 4)
 count c = c.block_count-last.ensures ∙ ap blocks c.level_of.ensures
 
 pub overflow_sub-last : goal.overflow_sub-last
-overflow_sub-last c = omega (arith, count c, c.requires.1)
+overflow_sub-last c = omega (arith, count (goal.at.overflow_sub-last c).After-block_count-last, c.requires.1)
 
 -- the blocks that first_under is asked about, and the result
-asked : (c : goal.After-block_count-last) (p : ℕ) → p ≤ c.args.end
+asked : (c : After-block_count-last) (p : ℕ) → p ≤ c.args.end
     → (c.level_of-hash.result.log ≤ 16) × (c.block_count-last.result - 1 < 2 ^ 32) × (p < 2 ^ 32)
 asked c p o =
     let rules = c.requires.0 in
     let l : c.level_of-hash.result.log ≤ 16 = rw c.level_of-hash.ensures (rules.hash.logs 3 (omega arith)).1 in
     (l, omega (arith, count c, blocks_small c.args.view _ rules 4 (omega arith)), omega (arith, c.requires.3, blocks_small c.args.view _ rules 3 (omega arith)))
 
-given : (c : goal.After-block_count-last) (p r : ℕ) → r ≡ min (suc (c.block_count-last.result - 1)) (max 0 (child c.level_of-hash.result p))
+given : (c : After-block_count-last) (p r : ℕ) → r ≡ min (suc (c.block_count-last.result - 1)) (max 0 (child c.level_of-hash.result p))
     → r ≡ min (blocks (level_of c.args.view 4)) (child (level_of c.args.view 3) p)
 given c p r e =
     let q : child c.level_of-hash.result p ≡ child (level_of c.args.view 3) p = ap (λ (l : Level). child l p) c.level_of-hash.ensures in
     omega (arith, count c, c.requires.1)
 
 pub first_under-requires : goal.first_under-requires
-first_under-requires c = asked c _ c.requires.2
+first_under-requires c = asked (goal.at.first_under-requires c).After-block_count-last _ c.requires.2
 
 pub first_under-requires-2 : goal.first_under-requires-2
-first_under-requires-2 c = asked c.before _ (omega arith)
+first_under-requires-2 c = asked (goal.at.first_under-requires-2 c).After-block_count-last _ (omega arith)
 
 pub count_matching-requires : goal.count_matching-requires
 count_matching-requires c =
-    let from = given c.before.before c.args.p _ c.first_under.ensures in
-    let to = given c.before.before c.args.end _ c.first_under-2.ensures in (
+    let from = given (goal.at.count_matching-requires c).After-block_count-last c.args.p _ c.first_under.ensures in
+    let to = given (goal.at.count_matching-requires c).After-block_count-last c.args.end _ c.first_under-2.ensures in (
       c.requires.0,
       omega arith,
       omega arith,
@@ -53,4 +53,4 @@ pub returns : goal.returns
 returns c =
     c.count_matching.ensures
     ∙ ap₂ (λ (x y : ℕ). count_of (λ (j : ℕ). matches c.args.view c.args.image.now 4 (x + j)) (y - x))
-    (given c.before.before.before c.args.p _ c.first_under.ensures) (given c.before.before.before c.args.end _ c.first_under-2.ensures)
+    (given (goal.at.returns c).After-block_count-last c.args.p _ c.first_under.ensures) (given (goal.at.returns c).After-block_count-last c.args.end _ c.first_under-2.ensures)

@@ -7,11 +7,11 @@ use Rattle.number.specs.Blocks.{blocks}
 use Rattle.ivfc.specs.Blocks.{parent, child}
 use Rattle.ivfc.specs.Verified.{count_of}
 use Rattle.ivfc.specs.Views.{level_of, content_of, verified}
-use Rattle.ivfc.specs.Rules.{Remembers}
 use Rattle.ivfc.proofs.VerifiedLaws.{parent_inside}
 use Rattle.ivfc.proofs.LowestLaws.{first_between, count_le}
 use Rattle.ivfc.proofs.JudgeLaws.{blocks_small, counted, counted_none, counted_all}
 use Rattle.ivfc.proofs.verifying.count_verified.Goals as goal
+use Rattle.ivfc.proofs.verifying.count_verified.Goals.{After-count_under-count, After-judge-judged, In-loop-p}
 
 pub level_of-requires : goal.level_of-requires
 level_of-requires c = tt
@@ -58,17 +58,17 @@ loop-p-init c =
     )
 
 -- the last block of level 3 that has an entry of level 4 is there
-last-inside : (c : goal.At-loop-p) → c.parent_of-last.result < blocks (level_of c.args.view 3)
+last-inside : (c : In-loop-p) → c.parent_of-last.result < blocks (level_of c.args.view 3)
 last-inside c =
     let n : ℕ = c.block_count-n.result in
     let k : n - 1 < blocks (level_of c.args.view 4) = omega (arith, c.loop-p.invariant.0, c.loop-p.invariant.1) in
     rw c.loop-p.invariant.2 (parent_inside (level_of c.args.view) c.requires.hash 3 (n - 1) (omega arith) k)
 
 pub judge-judged-requires : goal.judge-judged-requires
-judge-judged-requires c = (c.requires, omega arith, c.loop-p-test.true, last-inside c.before, c.loop-p.invariant.3)
+judge-judged-requires c = (c.requires, omega arith, c.loop-p-test.true, last-inside (goal.at.judge-judged-requires c).In-loop-p, c.loop-p.invariant.3)
 
 -- the row ends at the last block or before, or one past it
-ends : (c : goal.After-judge-judged)
+ends : (c : After-judge-judged)
     → (c.loop-p.p ≤ c.judge-judged.result.end) × (c.judge-judged.result.end ≤ suc c.parent_of-last.result)
 ends c =
     let a = c.args in
@@ -77,11 +77,11 @@ ends c =
 pub count_under-count-requires : goal.count_under-count-requires
 count_under-count-requires c =
     let l = c.loop-p in
-    let e = ends c.before in
-    (c.requires, omega (arith, l.invariant.0, l.invariant.1), omega (arith, e.0), omega (arith, e.1, last-inside c.before.before.before))
+    let e = ends (goal.at.count_under-count-requires c).After-judge-judged in
+    (c.requires, omega (arith, l.invariant.0, l.invariant.1), omega (arith, e.0), omega (arith, e.1, last-inside (goal.at.count_under-count-requires c).In-loop-p))
 
 -- one row more, and the block that ends it
-turned : (c : goal.After-count_under-count) → c.loop-p.count + c.count_under-count.result
+turned : (c : After-count_under-count) → c.loop-p.count + c.count_under-count.result
     ≡ count_of (verified c.args.view c.args.image.now 4) (min c.block_count-n.result (child (level_of c.args.view 3) (c.judge-judged.result.end + 1)))
 turned c =
     let l = c.loop-p in
@@ -100,7 +100,7 @@ overflow_add-count c =
     record {
       fits = omega (
         arith,
-        turned c,
+        turned (goal.at.overflow_add-count c).After-count_under-count,
         count_le (verified a.view a.image.now 4) (min n (child (level_of a.view 3) (c.judge-judged.result.end + 1))),
         l.invariant.0,
         blocks_small a.view _ c.requires 4 (omega arith),
@@ -109,15 +109,15 @@ overflow_add-count c =
 
 pub overflow_add-p : goal.overflow_add-p
 overflow_add-p c =
-    record { fits = omega (arith, (ends c.before.before.before).1, last-inside c.before.before.before.before.before, blocks_small c.args.view _ c.requires 3 (omega arith)) }
+    record { fits = omega (arith, (ends (goal.at.overflow_add-p c).After-judge-judged).1, last-inside (goal.at.overflow_add-p c).In-loop-p, blocks_small c.args.view _ c.requires 3 (omega arith)) }
 
 pub loop-p-smaller : goal.loop-p-smaller
-loop-p-smaller c = omega (arith, (ends c.before.before.before).0, c.loop-p-test.true)
+loop-p-smaller c = omega (arith, (ends (goal.at.loop-p-smaller c).After-judge-judged).0, c.loop-p-test.true)
 
 pub loop-p-preserved : goal.loop-p-preserved
 loop-p-preserved c =
     let l = c.loop-p in
-    (l.invariant.0, l.invariant.1, l.invariant.2, c.judge-judged.ensures.1, turned c.before)
+    (l.invariant.0, l.invariant.1, l.invariant.2, c.judge-judged.ensures.1, turned (goal.at.loop-p-preserved c).After-count_under-count)
 
 pub returns : goal.returns
 returns c =

@@ -1,18 +1,12 @@
 -- `count_verified` meets its contract. The loop's invariant: so many of the blocks of level 4 below the first p blocks of level 3 are
 -- verified, and the memory is right. The measure is what is left of level 3. Assumes nothing.
-use Prim.Native.Nat.{ℕ, suc, ◌+◌, ◌-◌, ◌≤◌, ◌<◌, min}
-use mathlib.Core.Path.{◌≡◌, refl, sym, ap, ◌∙◌}
-use native.Mathlib.Omega.{arith}
-use native.Mathlib.Nat.{pos_of_ne-zero}
-use Rattle.number.specs.declared.Level.{Level}
+use Prim.Native.Nat.{suc, ◌-◌, ◌<◌, min}
+use mathlib.Core.Path.{◌≡◌}
 use Rattle.number.specs.Blocks.{blocks}
 use Rattle.ivfc.specs.Blocks.{parent, child}
 use Rattle.ivfc.specs.Verified.{count_of}
-use Rattle.ivfc.specs.Views.{level_of, content_of, verified}
+use Rattle.ivfc.specs.Views.{level_of, verified}
 use Rattle.ivfc.specs.Rules.{Remembers}
-use Rattle.ivfc.proofs.VerifiedLaws.{parent_inside}
-use Rattle.ivfc.proofs.LowestLaws.{first_between, count_le}
-use Rattle.ivfc.proofs.JudgeLaws.{blocks_small, counted, counted_none, counted_all}
 use Rattle.ivfc.proofs.verifying.count_verified.Given as goal
 
 abbrev pub invariant-loop-p : goal.invariant-loop-p

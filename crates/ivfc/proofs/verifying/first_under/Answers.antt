@@ -2,7 +2,6 @@
 use mathlib.Core.Path.{◌≡◌, ap, ◌∙◌}
 use Prim.Native.Nat.{ℕ, ◌*◌, ◌/◌, max}
 use native.Mathlib.Omega.{arith}
-use borrow.Author.Rules.{rules}
 use Rattle.ivfc.specs.Blocks.{child}
 use Rattle.ivfc.proofs.JudgeLaws.{start_fits}
 use Rattle.ivfc.proofs.verifying.first_under.Goals as goal

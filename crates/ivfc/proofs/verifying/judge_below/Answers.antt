@@ -2,7 +2,6 @@
 use mathlib.Core.Path.{◌≡◌, ap, ◌∙◌}
 use Prim.Native.Nat.{ℕ, suc, ◌-◌, ◌≤◌, min, max}
 use native.Mathlib.Omega.{arith}
-use borrow.Author.Rules.{rules}
 use Rattle.number.specs.declared.Level.{Level}
 use Rattle.ivfc.specs.Blocks.{child}
 use Rattle.ivfc.specs.Views.{level_of, content_of}

@@ -1,5 +1,4 @@
 -- `parent_of` is the block of the entry's first byte. Assumes nothing.
-use borrow.Author.Rules.{rules}
 use Rattle.ivfc.specs.Blocks.{parent}
 use Rattle.ivfc.proofs.verifying.parent_of.Goals as goal
 

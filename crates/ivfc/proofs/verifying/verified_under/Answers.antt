@@ -1,6 +1,5 @@
 -- `verified_under` goes by the answer for the block that holds the entry, and then by the entry. Assumes nothing.
 use mathlib.Core.Path.{sym, ◌∙◌}
-use borrow.Author.Rules.{rules}
 use Rattle.ivfc.specs.Views.{level_of, content_of}
 use Rattle.ivfc.proofs.VerifiedLaws.{verified_below, verified_under}
 use Rattle.ivfc.proofs.verifying.verified_under.Goals as goal

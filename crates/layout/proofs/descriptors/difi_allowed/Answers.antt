@@ -2,7 +2,6 @@
 use mathlib.Core.Bool.{◌&&◌}
 use lib.Dec.{leb, eqb}
 use Rattle.limits.specs.Limits.{ivfc_size, dpfs_size}
-use borrow.Author.Rules.{rules}
 use Rattle.layout.specs.Every.{every, onto}
 use Rattle.layout.specs.Descriptors.{difi_allowed}
 use Rattle.layout.proofs.descriptors.difi_allowed.Goals as goal

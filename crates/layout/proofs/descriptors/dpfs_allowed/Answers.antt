@@ -1,6 +1,5 @@
 -- `layout::descriptors::dpfs_allowed` meets its contract. Assumes nothing.
 use mathlib.Core.Bool.{◌&&◌}
-use borrow.Author.Rules.{rules}
 use Rattle.layout.specs.Every.{every, onto}
 use Rattle.layout.specs.Descriptors.{dpfs_allowed}
 use Rattle.layout.proofs.descriptors.dpfs_allowed.Goals as goal

@@ -3,7 +3,6 @@ use Prim.Native.Nat.{◌*◌}
 use mathlib.Core.Path.{sym}
 use native.Mathlib.Omega.{arith}
 use borrow.Author.Tests.{le-leb}
-use borrow.Author.Rules.{rules}
 use Rattle.layout.specs.Descriptors.{enough_bits}
 use Rattle.layout.proofs.descriptors.enough_bits.Goals as goal
 

@@ -1,5 +1,4 @@
 -- `layout::descriptors::field8_if` meets its contract. Assumes nothing.
-use borrow.Author.Rules.{rules}
 use Rattle.layout.proofs.descriptors.field8_if.Goals as goal
 
 pub returns-then-there : goal.returns-then-there

@@ -1,7 +1,6 @@
 -- `layout::descriptors::ivfc_allowed` meets its contract. Assumes nothing.
 use mathlib.Core.Bool.{◌&&◌}
 use lib.Dec.{eqb}
-use borrow.Author.Rules.{rules}
 use Rattle.layout.specs.Every.{every, onto}
 use Rattle.layout.specs.Descriptors.{ivfc_allowed}
 use Rattle.layout.proofs.descriptors.ivfc_allowed.Goals as goal

@@ -1,6 +1,6 @@
 -- `layout::descriptors::judge_partition` meets its contract. Assumes nothing.
+use mathlib.Core.Path.{sym, ◌∙◌}
 use borrow.Author.Tests.{lt-leb, le-leb}
-use Rattle.number.proofs.Tests.{failed, passed}
 use Rattle.layout.specs.Descriptors.{judged_partition}
 use Rattle.layout.proofs.descriptors.judge_partition.Goals as goal
 
@@ -16,15 +16,15 @@ form_allowed-requires c = tt
 
 pub returns-then-not-form_allowed : goal.returns-then-not-form_allowed
 unfolding judged_partition
-returns-then-not-form_allowed c = rw (judged_partition, le-leb 0x44 _ c.if-length-lt-DIFI_SIZE.false, ← c.read_partition-p.ensures, failed c.form_allowed.ensures c.if-not-form_allowed.true)
+returns-then-not-form_allowed c = rw (judged_partition, le-leb 0x44 _ c.if-length-lt-DIFI_SIZE.false, ← c.read_partition-p.ensures, sym c.form_allowed.ensures ∙ c.if-not-form_allowed.true)
 
 pub places_allowed-requires : goal.places_allowed-requires
 places_allowed-requires c = tt
 
 pub returns-then-not-places_allowed : goal.returns-then-not-places_allowed
 unfolding judged_partition
-returns-then-not-places_allowed c = rw (judged_partition, le-leb 0x44 _ c.if-length-lt-DIFI_SIZE.false, ← c.read_partition-p.ensures, passed c.form_allowed.ensures c.if-not-form_allowed.false, failed c.places_allowed.ensures c.if-not-places_allowed.true)
+returns-then-not-places_allowed c = rw (judged_partition, le-leb 0x44 _ c.if-length-lt-DIFI_SIZE.false, ← c.read_partition-p.ensures, sym c.form_allowed.ensures ∙ c.if-not-form_allowed.false, sym c.places_allowed.ensures ∙ c.if-not-places_allowed.true)
 
 pub returns : goal.returns
 unfolding judged_partition
-returns c = rw (judged_partition, le-leb 0x44 _ c.if-length-lt-DIFI_SIZE.false, ← c.read_partition-p.ensures, passed c.form_allowed.ensures c.if-not-form_allowed.false, passed c.places_allowed.ensures c.if-not-places_allowed.false)
+returns c = rw (judged_partition, le-leb 0x44 _ c.if-length-lt-DIFI_SIZE.false, ← c.read_partition-p.ensures, sym c.form_allowed.ensures ∙ c.if-not-form_allowed.false, sym c.places_allowed.ensures ∙ c.if-not-places_allowed.false)

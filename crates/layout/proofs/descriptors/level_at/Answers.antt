@@ -1,5 +1,4 @@
 -- `layout::descriptors::level_at` meets its contract. Assumes nothing.
-use borrow.Author.Rules.{rules}
 use Rattle.layout.proofs.descriptors.level_at.Goals as goal
 
 pub returns : goal.returns

@@ -3,7 +3,6 @@ use mathlib.Core.Path.{◌∙◌}
 use mathlib.Core.Bool.{not, cond}
 use lib.Dec.{eqb}
 use Rattle.number.specs.Fields.{le64}
-use borrow.Author.Rules.{rules}
 use Rattle.layout.specs.Descriptors.{difi_fields}
 use Rattle.layout.proofs.descriptors.read_difi.Goals as goal
 

@@ -1,5 +1,4 @@
 -- `layout::descriptors::read_dpfs` meets its contract. Assumes nothing.
-use borrow.Author.Rules.{rules}
 use Rattle.layout.specs.Descriptors.{dpfs_fields}
 use Rattle.layout.proofs.descriptors.read_dpfs.Goals as goal
 

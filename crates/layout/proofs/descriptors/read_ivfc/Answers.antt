@@ -1,5 +1,4 @@
 -- `layout::descriptors::read_ivfc` meets its contract. Assumes nothing.
-use borrow.Author.Rules.{rules}
 use Rattle.layout.specs.Descriptors.{ivfc_fields}
 use Rattle.layout.proofs.descriptors.read_ivfc.Goals as goal
 

@@ -1,7 +1,6 @@
 -- `layout::headers::diff_header` meets its contract. Assumes nothing.
 use Rattle.layout.specs.Headers.{diff_header}
 use Rattle.layout.specs.declared.Kind.TheVariants.{Diff}
-use borrow.Author.Rules.{rules}
 use Rattle.layout.proofs.headers.diff_header.Goals as goal
 
 pub returns : goal.returns

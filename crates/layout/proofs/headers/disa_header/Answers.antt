@@ -1,7 +1,6 @@
 -- `layout::headers::disa_header` meets its contract. Assumes nothing.
 use Rattle.layout.specs.Headers.{disa_header}
 use Rattle.layout.specs.declared.Kind.TheVariants.{Disa}
-use borrow.Author.Rules.{rules}
 use Rattle.layout.proofs.headers.disa_header.Goals as goal
 
 pub returns : goal.returns

@@ -3,7 +3,6 @@ use borrow.Author.Tests.{eq-eqb, ne_eqb}
 use Rattle.layout.specs.Headers.{geometry_allowed}
 use Rattle.number.specs.Ranges.{placed, clear}
 use mathlib.Core.Bool.{◌&&◌}
-use borrow.Author.Rules.{rules}
 use Rattle.layout.proofs.headers.geometry_allowed.Goals as goal
 
 pub returns-then-h-eq2 : goal.returns-then-h-eq2

@@ -1,6 +1,5 @@
 use mathlib.Core.Path.{refl}
 use Rattle.layout.proofs.HeaderLaws.{header_copied}
-use borrow.Author.Rules.{rules}
 use Rattle.layout.proofs.headers.header_of.Goals as goal
 
 pub returns : goal.returns

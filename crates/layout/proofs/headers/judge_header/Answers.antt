@@ -1,6 +1,5 @@
 -- `layout::headers::judge_header` meets its contract. Assumes nothing.
 use mathlib.Core.Path.{sym, ◌∙◌}
-use borrow.Author.Rules.{rules}
 use Rattle.layout.specs.Headers.{kind_in, judged_header}
 use Rattle.layout.proofs.headers.judge_header.Goals as goal
 

@@ -1,5 +1,4 @@
 -- `layout::headers::range_at` meets its contract. Assumes nothing.
-use borrow.Author.Rules.{rules}
 use Rattle.layout.proofs.headers.range_at.Goals as goal
 
 pub returns : goal.returns

@@ -2,7 +2,6 @@
 use Rattle.layout.specs.Headers.{selection_allowed}
 use lib.Dec.{eqb}
 use mathlib.Core.Bool.{◌&&◌, ◌||◌}
-use borrow.Author.Rules.{rules}
 use Rattle.layout.proofs.headers.selection_allowed.Goals as goal
 
 pub returns : goal.returns

@@ -1,22 +1,20 @@
 -- `layout::opening::open_under` meets its contract. Assumes nothing.
 use mathlib.Core.Path.{sym, ◌∙◌}
-use borrow.Author.Rules.{rules}
-use Rattle.number.proofs.Tests.{failed, passed}
 use Rattle.layout.specs.Opening.{opened_under}
 use Rattle.layout.proofs.HeaderLaws.{header_checked}
 use Rattle.layout.proofs.opening.open_under.Goals as goal
 
 pub returns-then-not-length_allowed : goal.returns-then-not-length_allowed
 unfolding opened_under
-returns-then-not-length_allowed c = rw (opened_under, failed c.length_allowed.ensures c.if-not-length_allowed.true)
+returns-then-not-length_allowed c = rw (opened_under, sym c.length_allowed.ensures ∙ c.if-not-length_allowed.true)
 
 pub active_table-requires : goal.active_table-requires
-active_table-requires c = (header_checked _ _ _ (sym c.judge_header.ensures ∙ c.h-1.given.1)).geometry
+active_table-requires c = (header_checked _ _ _ (sym c.judge_header.ensures ∙ c.in-GoodHeader.is)).geometry
 
 pub returns-in-GoodHeader : goal.returns-in-GoodHeader
 unfolding opened_under
-returns-in-GoodHeader c = rw (opened_under, passed c.length_allowed.ensures c.if-not-length_allowed.false, sym c.judge_header.ensures ∙ c.h-1.given.1, ← c.active_table.ensures.0) c.open_table.ensures
+returns-in-GoodHeader c = rw (opened_under, sym c.length_allowed.ensures ∙ c.if-not-length_allowed.false, sym c.judge_header.ensures ∙ c.in-GoodHeader.is, ← c.active_table.ensures.0) c.open_table.ensures
 
 pub returns-in-BadHeader : goal.returns-in-BadHeader
 unfolding opened_under
-returns-in-BadHeader c = rw (opened_under, passed c.length_allowed.ensures c.if-not-length_allowed.false, sym c.judge_header.ensures ∙ c.r-1.given.1)
+returns-in-BadHeader c = rw (opened_under, sym c.length_allowed.ensures ∙ c.if-not-length_allowed.false, sym c.judge_header.ensures ∙ c.in-BadHeader.is)

@@ -1,5 +1,4 @@
 -- `layout::tables::hash_range` meets its contract. Assumes nothing.
-use borrow.Author.Rules.{rules}
 use Rattle.layout.proofs.tables.hash_range.Goals as goal
 
 pub returns-in-Disa : goal.returns-in-Disa

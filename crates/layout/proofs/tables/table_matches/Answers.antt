@@ -2,7 +2,6 @@
 use mathlib.Core.Path.{◌∙◌}
 use Rattle.number.specs.Bytes.{same_bytes}
 use Rattle.number.specs.Ranges.{part}
-use borrow.Author.Rules.{rules}
 use Rattle.layout.specs.Tables.{table_matches}
 use Rattle.layout.proofs.tables.table_matches.Goals as goal
 

@@ -2,7 +2,6 @@
 use mathlib.Core.Path.{refl}
 use native.Mathlib.Nat.{mod-lt}
 use Rattle.names.proofs.HashLaws.{bucket_is}
-use borrow.Author.Rules.{rules}
 use Rattle.names.proofs.hashing.bucket_of.Goals as goal
 
 pub returns : goal.returns

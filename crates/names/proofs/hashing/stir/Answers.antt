@@ -1,6 +1,5 @@
 -- `names::hashing::stir` meets its contract. Assumes nothing.
 use Rattle.names.specs.Searching.{round}
-use borrow.Author.Rules.{rules}
 use Rattle.names.proofs.hashing.stir.Goals as goal
 
 pub returns : goal.returns

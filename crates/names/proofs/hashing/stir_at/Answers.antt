@@ -1,6 +1,5 @@
 -- `names::hashing::stir_at` meets its contract. Assumes nothing.
 use Rattle.names.proofs.HashLaws.{round_is}
-use borrow.Author.Rules.{rules}
 use Rattle.names.proofs.hashing.stir_at.Goals as goal
 
 pub returns : goal.returns

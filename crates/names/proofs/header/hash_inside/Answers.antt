@@ -1,6 +1,5 @@
 -- `names::header::hash_inside` meets its contract. Assumes nothing.
 use Rattle.names.specs.Opening.{hash_inside}
-use borrow.Author.Rules.{rules}
 use Rattle.names.proofs.header.hash_inside.Goals as goal
 
 pub returns : goal.returns

@@ -1,7 +1,6 @@
 -- `names::header::starts_save` meets its contract. Assumes nothing.
 use native.Mathlib.Omega.{arith}
 use lib.ListN.{length-take}
-use borrow.Author.Rules.{rules}
 use Rattle.names.proofs.header.starts_save.Goals as goal
 
 pub slice_bounds-same_bytes-end : goal.slice_bounds-same_bytes-end

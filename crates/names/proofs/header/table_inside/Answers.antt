@@ -1,6 +1,5 @@
 -- `names::header::table_inside` meets its contract. Assumes nothing.
 use Rattle.names.proofs.OpenLaws.{table_in, table_out}
-use borrow.Author.Rules.{rules}
 use Rattle.names.proofs.header.table_inside.Goals as goal
 
 pub returns-then-region-size : goal.returns-then-region-size

@@ -1,5 +1,4 @@
 -- `names::header::tables_inside` meets its contract. Assumes nothing.
-use borrow.Author.Rules.{rules}
 use Rattle.names.proofs.header.tables_inside.Goals as goal
 
 pub returns : goal.returns

@@ -1,6 +1,5 @@
 -- `names::header::well_formed` meets its contract. Assumes nothing.
 use Rattle.names.specs.Opening.{well_formed}
-use borrow.Author.Rules.{rules}
 use Rattle.names.proofs.header.well_formed.Goals as goal
 
 pub returns : goal.returns

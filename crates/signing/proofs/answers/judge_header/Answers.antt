@@ -1,6 +1,5 @@
 -- `judge_header` meets its contract. Assumes nothing.
 use mathlib.Core.Path.{sym, ◌∙◌}
-use borrow.Author.Rules.{rules}
 use Rattle.signing.proofs.AnswerLaws.{disa_judged, diff_judged, neither_refused}
 use Rattle.signing.proofs.answers.judge_header.Goals as goal
 

@@ -2,7 +2,6 @@
 use mathlib.Core.Path.{ap, ◌∙◌}
 use Rattle.signing.specs.Calls.{same_kind}
 use Rattle.signing.proofs.AnswerLaws.{kind_fits, kind_differs}
-use borrow.Author.Rules.{rules}
 use Rattle.signing.proofs.answers.judge_kind.Goals as goal
 
 pub returns-then-same_kind : goal.returns-then-same_kind

@@ -6,7 +6,6 @@ use lib.ListN.{length, replicate, length-append}
 use Rattle.sha256.specs.Sha256.{sha256}
 use Rattle.signing.specs.Blocks.{signing_block}
 use Rattle.signing.proofs.BlockLaws.{taken}
-use borrow.Author.Rules.{rules}
 use Rattle.signing.proofs.blocks.block_digest.Goals as goal
 
 pub slice_bounds-bytes-end : goal.slice_bounds-bytes-end

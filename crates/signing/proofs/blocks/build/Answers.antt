@@ -2,7 +2,6 @@
 use mathlib.Core.Path.{◌∙◌}
 use native.Mathlib.Omega.{arith}
 use lib.ListN.{replicate}
-use borrow.Author.Rules.{rules}
 use Rattle.signing.specs.Blocks.{signing_block}
 use Rattle.signing.proofs.BlockLaws.{shape_letters, shape_fields, block_made, block_ends}
 use Rattle.number.proofs.ListLaws.{over_zeros}

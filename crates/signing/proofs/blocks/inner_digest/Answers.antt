@@ -1,7 +1,6 @@
 -- `inner_digest` meets its contract. Assumes nothing.
 use mathlib.Core.Path.{ap, ◌∙◌}
 use native.Mathlib.Omega.{arith}
-use borrow.Author.Rules.{rules}
 use Rattle.sha256.specs.Sha256.{sha256}
 use Rattle.signing.proofs.BlockLaws.{inner_made}
 use Rattle.signing.proofs.blocks.inner_digest.Goals as goal

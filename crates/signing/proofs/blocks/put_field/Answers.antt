@@ -1,10 +1,6 @@
-use mathlib.Core.Path.{◌≡◌, refl, sym, ◌∙◌}
-use Prim.Native.Nat.{◌+◌, ◌-◌, ◌≤◌}
+use mathlib.Core.Path.{refl, sym, ◌∙◌}
 use native.Mathlib.Omega.{arith}
-use lib.ListN.{length, length-set}
-use lib.Seq.{sets}
-use borrow.Author.Rules.{rules}
-use Rattle.number.specs.Fields.{field_bytes}
+use lib.ListN.{length-set}
 use Rattle.signing.proofs.FieldLaws.{field_starts, field_step, field_ends}
 use Rattle.signing.proofs.blocks.put_field.Goals as goal
 

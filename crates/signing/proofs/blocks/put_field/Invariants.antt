@@ -1,12 +1,9 @@
 -- `put_field` stores a field's bytes one by one. The invariant: what is stored, with the bytes that are left, is the field. Assumes nothing.
-use mathlib.Core.Path.{◌≡◌, refl, sym, ◌∙◌}
+use mathlib.Core.Path.{◌≡◌}
 use Prim.Native.Nat.{◌+◌, ◌-◌, ◌≤◌}
-use native.Mathlib.Omega.{arith}
-use lib.ListN.{length, length-set}
+use lib.ListN.{length}
 use lib.Seq.{sets}
-use borrow.Author.Rules.{rules}
 use Rattle.number.specs.Fields.{field_bytes}
-use Rattle.signing.proofs.FieldLaws.{field_starts, field_step, field_ends}
 use Rattle.signing.proofs.blocks.put_field.Given as goal
 
 abbrev pub invariant-loop-k : goal.invariant-loop-k

@@ -1,12 +1,9 @@
 -- `put_fields` stores fields one after the other. The invariant: what is stored, with the fields that are left, is all of them. Assumes nothing.
-use mathlib.Core.Path.{◌≡◌, refl, sym, ap, ◌∙◌}
-use Prim.Native.Nat.{◌+◌, ◌-◌, ◌≤◌, ◌<◌}
-use native.Mathlib.Omega.{arith}
+use mathlib.Core.Path.{◌≡◌}
+use Prim.Native.Nat.{◌+◌, ◌-◌, ◌≤◌}
 use lib.ListN.{length, drop}
 use lib.Seq.{sets}
-use borrow.Author.Rules.{rules}
 use Rattle.signing.specs.Blocks.{laid_out}
-use Rattle.signing.proofs.FieldLaws.{left_length, left_stored, none_left}
 use Rattle.signing.proofs.blocks.put_fields.Given as goal
 
 abbrev pub invariant-loop-k : goal.invariant-loop-k

@@ -2,7 +2,6 @@
 use mathlib.Core.Path.{ap, ◌∙◌}
 use lib.Seq.{sets}
 use native.Mathlib.Omega.{arith}
-use borrow.Author.Rules.{rules}
 use Rattle.signing.proofs.BlockLaws.{tail_hashed, tail_hashed_ends, tail_plain, tail_plain_ends}
 use Rattle.signing.proofs.blocks.put_tail.Goals as goal
 

@@ -2,13 +2,12 @@
 use mathlib.Core.Path.{refl}
 use Rattle.number.specs.Fields.{field_bytes}
 use Rattle.signing.specs.Blocks.{laid_out}
-use borrow.Author.Rules.{rules}
 use Rattle.signing.proofs.shapes.extdata_shape.Goals as goal
 
 pub returns-in-Quota : goal.returns-in-Quota
 unfolding laid_out field_bytes
-returns-in-Quota c = rw c.enum_told-1.given.1 (record { letters = refl; fields = refl; hashed = refl })
+returns-in-Quota c = rw c.in-Quota.is (record { letters = refl; fields = refl; hashed = refl })
 
 pub returns-in-Device : goal.returns-in-Device
 unfolding laid_out field_bytes
-returns-in-Device c = rw c.file-1.given.1 (record { letters = refl; fields = refl; hashed = refl })
+returns-in-Device c = rw c.in-Device.is (record { letters = refl; fields = refl; hashed = refl })

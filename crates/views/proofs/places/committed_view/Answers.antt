@@ -1,5 +1,4 @@
 -- `views::places::committed_view` meets its contract. Assumes nothing.
-use borrow.Author.Rules.{rules}
 use Rattle.views.specs.Places.{tree_in, committed_view}
 use Rattle.views.proofs.places.committed_view.Goals as goal
 

@@ -1,5 +1,4 @@
 -- `views::places::partition_of` meets its contract. Assumes nothing.
-use borrow.Author.Rules.{rules}
 use borrow.Author.Tests.{eq-eqb, ne_eqb}
 use Rattle.views.specs.Places.{partition_of}
 use Rattle.views.proofs.places.partition_of.Goals as goal
@@ -10,8 +9,8 @@ returns-then-q-eq0 c = rw (partition_of, eq-eqb _ _ c.if-q-eq0.true)
 
 pub returns-in-Missing : goal.returns-in-Missing
 unfolding partition_of
-returns-in-Missing c = rw (partition_of, ne_eqb _ _ c.if-q-eq0.false, c.enum_told-1.given.1)
+returns-in-Missing c = rw (partition_of, ne_eqb _ _ c.if-q-eq0.false, c.in-Missing.is)
 
 pub returns-in-There : goal.returns-in-There
 unfolding partition_of
-returns-in-There c = rw (partition_of, ne_eqb _ _ c.if-q-eq0.false, c.second-1.given.1)
+returns-in-There c = rw (partition_of, ne_eqb _ _ c.if-q-eq0.false, c.in-There.is)

@@ -1,5 +1,4 @@
 -- `views::places::staged_view` meets its contract. Assumes nothing.
-use borrow.Author.Rules.{rules}
 use Rattle.views.specs.Places.{tree_in, staged_view}
 use Rattle.views.proofs.places.staged_view.Goals as goal
 

@@ -1,7 +1,6 @@
 -- `views::places::tree_in` meets its contract. Assumes nothing.
 use mathlib.Core.Path.{◌≡◌}
 use mathlib.Core.Bool.{Bool}
-use borrow.Author.Rules.{rules}
 use Rattle.number.specs.declared.Level.{Level}
 use Rattle.dpfs.specs.declared.Tree.{Tree}
 use Rattle.views.specs.Places.{tree_in}

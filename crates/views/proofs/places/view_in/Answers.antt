@@ -1,5 +1,4 @@
 -- `views::places::view_in` meets its contract. Assumes nothing.
-use borrow.Author.Rules.{rules}
 use Rattle.views.specs.Places.{master_in, view_in}
 use Rattle.views.proofs.places.view_in.Goals as goal
 
