@@ -2,7 +2,7 @@
 use mathlib.Core.Path.{◌≡◌, refl, sym, ap, ◌∙◌, subst}
 use mathlib.Core.List.{List, [], ◌∷◌}
 use mathlib.Core.Bool.{Bool, true, false, not, ◌&&◌, cond, true≢false}
-use Prim.Native.Nat.{ℕ, zero, suc, ◌+◌, ◌-◌, ◌*◌, ◌≤◌, ◌<◌}
+use Prim.Native.Nat.{ℕ, zero, suc, ◌+◌, ◌-◌, ◌*◌, ◌^◌, ◌≤◌, ◌<◌}
 use native.Mathlib.Omega.{arith}
 use lib.ListN.{length}
 use lib.Seq.{sets}
@@ -159,6 +159,14 @@ module _ (view : View) (n : ℕ) (rules : ViewRules view n) (i b : ℕ) (some : 
 
   pub number_small : 32 * b + 32 ≤ 0x4000000
   number_small = omega (arith, entry_above (level_of view) rules.hash i b some level e, level_small view n rules (i - 1) (omega arith))
+
+-- and the entry of each block up to it is there, so that its place fits
+pub parent_asks : (view : View) (n : ℕ) → ViewRules view n → (i last : ℕ) → 1 ≤ i → i ≤ 4 → last < blocks (level_of view i)
+    → (upper : Level) → upper ≡ level_of view (i - 1) → (b : ℕ) → b ≤ last → (upper.log < 64) × (32 * b < 2 ^ 64)
+parent_asks view n rules i last some level e upper u b o = (
+  rw u (log_small view n rules (i - 1) (omega arith)),
+  omega (arith, number_small view n rules i last some level e),
+)
 
 module _ (view : View) (i first last : ℕ) (image : List ℕ) where
   abbrev pub all_rehashed : List ℕ

@@ -1,5 +1,5 @@
 -- A folder's walk: its own entry is met, then its files are listed, then its subfolders. Assumes nothing.
-use mathlib.Core.Path.{◌≡◌, sym, ap, ◌∙◌}
+use mathlib.Core.Path.{◌≡◌, refl, sym, ap, ◌∙◌}
 use mathlib.Core.Bool.{Bool}
 use mathlib.Core.List.{List, ◌∷◌}
 use Prim.Native.Nat.{ℕ, suc, ◌+◌, ◌≤◌}
@@ -13,6 +13,12 @@ use Rattle.names.specs.Entries.{sibling, first_folder, first_file}
 use Rattle.names.specs.Listing.{Entry, Outcome, folder, next, files, folders, folder_at}
 use Rattle.names.specs.Walks.{Holds, Walks}
 use Rattle.names.proofs.WalkLaws.{Onward, Stops, Gained, folder_held, folder_opens, walks_stop, walks_met, folders_go}
+
+-- an answer that names no entry ends the walk
+pub stops_rest : (w : Walked) → ((x : ℕ) → w ≡ walked.Met x → ⊥) → Stops w
+stops_rest (walked.Met n) h = h n refl
+stops_rest walked.Invalid h = tt
+stops_rest (walked.Unverified b) h = tt
 
 -- what a walk promises: from a state that stands for any n names it goes as the definition does
 abbrev pub Promises : Save → (level4 : List ℕ) → (n : ℕ) → (folderMarks fileMarks row : List ℕ) → (List Entry → Outcome) → Walked → (folderMarks' fileMarks' row' : List ℕ) → Type 0

@@ -50,7 +50,7 @@ fn list_files(
 }
 
 // A folder: its own entry, its files, then its subfolders.
-#[cycle(list_folder_list_folders)]
+#[cycle(tree)]
 fn list_folder(
     s: Save,
     view: View,
@@ -105,7 +105,7 @@ fn list_folder(
 }
 
 // The folders from one on, in sibling order, each with all that is below it.
-#[cycle(list_folder_list_folders)]
+#[cycle(tree)]
 fn list_folders(
     s: Save,
     view: View,

@@ -4,7 +4,6 @@ use Rattle.number.specs.declared.Range.{Range}
 use Prim.Native.Nat.{ℕ}
 use mathlib.Core.Path.{ap}
 use Rattle.commits.proofs.HeaderLaws.{flag_small, flag_inside, hash_fits, header_made}
-use borrow.Author.Rules.{rules}
 use Rattle.commits.proofs.next_header.Goals as goal
 
 abbrev offset : Range → ℕ

@@ -1,5 +1,4 @@
 -- `commits::store_signed` meets its contract. Assumes nothing.
-use borrow.Author.Rules.{rules}
 use Rattle.commits.proofs.HeaderLaws.{signed_stored}
 use Rattle.commits.proofs.store_signed.Goals as goal
 

@@ -1,5 +1,4 @@
 -- `commits::switch_signed` meets its contract. Assumes nothing.
-use borrow.Author.Rules.{rules}
 use Rattle.commits.proofs.HeaderLaws.{signed_made}
 use Rattle.commits.proofs.switch_signed.Goals as goal
 

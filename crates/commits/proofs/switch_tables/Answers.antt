@@ -1,6 +1,5 @@
 -- `commits::switch_tables` meets its contract. Assumes nothing.
 use Rattle.commits.proofs.HeaderLaws.{image_made}
-use borrow.Author.Rules.{rules}
 use Rattle.commits.proofs.switch_tables.Goals as goal
 
 pub returns : goal.returns

@@ -1,14 +1,10 @@
 -- `enter` brings the entries of an interval up to date. The loop's invariant: the entries that are left, brought up to date in the image as it
 -- is, give the whole. The measure is what is left of the interval. Assumes nothing.
-use mathlib.Core.Path.{◌≡◌, refl, ◌∙◌, sym, ap}
-use Prim.Native.Nat.{suc, ◌≤◌, ◌-◌, ◌+◌}
-use native.Mathlib.Omega.{arith}
-use lib.ListN.{length}
+use mathlib.Core.Path.{◌≡◌}
+use Prim.Native.Nat.{suc, ◌≤◌, ◌-◌}
 use Rattle.number.specs.Frame.{Keeps}
-use Rattle.number.proofs.FrameLaws.{keeps_refl}
-use Rattle.ivfc.proofs.ViewLaws.{block_small}
-use Rattle.update.proofs.StagedLaws.{Own, staged, staged_kept}
-use Rattle.update.proofs.CodeLaws.{entries_from, some_keeps, enter_step, enter_end}
+use Rattle.update.proofs.StagedLaws.{Own}
+use Rattle.update.proofs.CodeLaws.{entries_from}
 use Rattle.update.proofs.enter.Given as goal
 
 abbrev pub invariant-loop-b : goal.invariant-loop-b

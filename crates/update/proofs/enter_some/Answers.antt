@@ -5,7 +5,6 @@ use native.Mathlib.Omega.{arith}
 use native.Mathlib.Numerals.{add-one}
 use lib.ListN.{length, take, length-take}
 use lib.Seq.{length-take-le}
-use borrow.Author.Rules.{rules}
 use Rattle.number.specs.Blocks.{blocks}
 use Rattle.ivfc.specs.Rows.{digests}
 use Rattle.ivfc.specs.Views.{level_of, content_of}

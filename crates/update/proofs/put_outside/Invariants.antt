@@ -1,16 +1,10 @@
 -- Each store is in the written range, and the bytes that are left are stored as before. Assumes nothing.
-use Rattle.number.proofs.ListLaws.{sets_start, sets_step, sets_end}
 use Rattle.number.specs.Frame.{Keeps}
-use Rattle.number.proofs.FrameLaws.{keeps_refl, keeps_trans, keeps_set}
-use Rattle.update.specs.Rules.{InPlace}
-use Rattle.update.proofs.StagedLaws.{OuterByte, view_kept}
-use Rattle.update.proofs.CodeLaws.{outer_ends}
+use Rattle.update.proofs.StagedLaws.{OuterByte}
 use lib.Seq.{sets}
 use lib.ListN.{length, drop}
-use native.Mathlib.Omega.{arith}
-use Prim.Native.Nat.{ℕ, ◌+◌, ◌≤◌, ◌-◌}
-use mathlib.Core.List.{List}
-use mathlib.Core.Path.{◌≡◌, sym, ap, ◌∙◌, subst}
+use Prim.Native.Nat.{◌+◌, ◌≤◌, ◌-◌}
+use mathlib.Core.Path.{◌≡◌}
 use Rattle.update.proofs.put_outside.Given as goal
 
 abbrev pub invariant-loop-i : goal.invariant-loop-i

@@ -4,7 +4,6 @@ use Prim.Native.Nat.{◌-◌, ◌+◌}
 use native.Mathlib.Omega.{arith}
 use native.Mathlib.Nat.{pos_of_ne-zero}
 use lib.ListN.{length}
-use borrow.Author.Rules.{rules}
 use Rattle.number.specs.declared.Level.{Level}
 use Rattle.number.specs.Blocks.{block_of}
 use Rattle.update.proofs.StagedLaws.{staged}

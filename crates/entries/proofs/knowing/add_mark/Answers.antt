@@ -2,13 +2,11 @@
 use mathlib.Core.Path.{sym, ◌∙◌}
 use mathlib.Core.Logic.{inr}
 use native.Mathlib.Omega.{arith}
-use borrow.Author.Tests.{not-true}
 use Rattle.entries.proofs.KnownLaws.{adds_set}
-use borrow.Author.Rules.{rules}
 use Rattle.entries.proofs.knowing.add_mark.Goals as goal
 
 pub set_mark-requires : goal.set_mark-requires
-set_mark-requires c = (omega (arith, c.if-at-known.true), sym c.is_marked.ensures ∙ not-true _ c.if-not-is_marked.true)
+set_mark-requires c = (omega (arith, c.if-at-known.true), sym c.is_marked.ensures ∙ c.if-not-is_marked.true)
 
 pub returns-then-not-is_marked : goal.returns-then-not-is_marked
 returns-then-not-is_marked c = adds_set c.args.known.now _ c.args.mark c.set_mark.ensures

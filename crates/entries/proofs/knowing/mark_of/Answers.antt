@@ -1,6 +1,5 @@
 -- `entries::knowing::mark_of` meets its contract. Assumes nothing.
 use Rattle.entries.proofs.KnownLaws.{mark_data, mark_hash}
-use borrow.Author.Rules.{rules}
 use Rattle.entries.proofs.knowing.mark_of.Goals as goal
 
 pub returns-then-i-eq4 : goal.returns-then-i-eq4

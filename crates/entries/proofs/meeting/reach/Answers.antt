@@ -5,7 +5,6 @@ use native.Mathlib.Omega.{arith}
 use Rattle.views.specs.Versions.{version_of}
 use Rattle.names.specs.Entries.{read_at}
 use Rattle.names.proofs.EntryLaws.{admit_no, admit_read, tests_passed, place_ends}
-use borrow.Author.Rules.{rules}
 use Rattle.ivfc.proofs.ViewLaws.{size4_small}
 use Rattle.entries.proofs.meeting.reach.Goals as goal
 

@@ -1,13 +1,10 @@
 -- `entries::reading::first_unknown` meets its contract. Assumes nothing.
-use mathlib.Core.Path.{◌≡◌, refl, sym, ◌∙◌}
+use mathlib.Core.Path.{◌≡◌}
 use Prim.Native.Nat.{suc, ◌-◌, ◌≤◌}
 use lib.ListN.{length}
-use native.Mathlib.Omega.{arith}
-use borrow.Author.Tests.{not-true, not-false}
 use Rattle.ivfc.specs.Verified.{first_not}
 use Rattle.ivfc.specs.Views.{verified}
 use Rattle.entries.specs.Known.{Knows}
-use Rattle.entries.proofs.ReadLaws.{level4_is, block4_small, first_good, first_bad, first_none}
 use Rattle.entries.proofs.reading.first_unknown.Given as goal
 
 abbrev pub invariant-loop-b : goal.invariant-loop-b

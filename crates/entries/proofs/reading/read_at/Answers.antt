@@ -1,7 +1,6 @@
 -- `entries::reading::read_at` meets its contract. Assumes nothing.
 use native.Mathlib.Omega.{arith}
 use Rattle.entries.proofs.ReadLaws.{touched, read_whole, read_refused}
-use borrow.Author.Rules.{rules}
 use Rattle.ivfc.proofs.ViewLaws.{size4_small, log4_small}
 use Rattle.entries.proofs.reading.read_at.Goals as goal
 

@@ -9,7 +9,6 @@ use Rattle.number.proofs.ListLaws.{length_bytes}
 use Rattle.names.specs.Records.{head, put_record}
 use Rattle.names.proofs.MeetLaws.{record_none}
 use Rattle.entries.proofs.ReadLaws.{level4_is, bytes_at}
-use borrow.Author.Rules.{rules}
 use Rattle.entries.proofs.reading.store_name.Goals as goal
 
 pub gather-requires : goal.gather-requires

@@ -2,7 +2,6 @@
 use mathlib.Core.Path.{◌∙◌}
 use native.Mathlib.Omega.{arith}
 use Rattle.entries.proofs.ReadLaws.{level4_is, word_is}
-use borrow.Author.Rules.{rules}
 use Rattle.entries.proofs.reading.word_at.Goals as goal
 
 pub gather-requires : goal.gather-requires

@@ -2,7 +2,6 @@ use Rattle.layout.specs.Tables.{inactive}
 use mathlib.Core.Path.{refl}
 use Rattle.steps.proofs.StageLaws.{flip_small, flip_asks, flip_done, selector_bit}
 use native.Mathlib.Omega.{arith}
-use borrow.Author.Rules.{rules}
 use Rattle.steps.proofs.beginning.flip_selector.Goals as goal
 
 pub overflow_add-place : goal.overflow_add-place

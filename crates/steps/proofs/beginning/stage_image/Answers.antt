@@ -15,7 +15,7 @@ begin_tree-requires-then-c-eq2 c = (
 )
 
 pub returns-then-c-eq2 : goal.returns-then-c-eq2
-returns-then-c-eq2 c = two_begun c.args.image.now c.args.c c.requires.1 c.args.space c.requires.0 c.stage_table.new.1.1.0 c.begin_tree.new.1.1.0 _ c.stage_table.ensures c.begin_tree.ensures c.begin_tree-then-c-eq2.ensures (eq-eqb _ 2 c.if-c-eq2.true)
+returns-then-c-eq2 c = two_begun c.args.image.now c.args.c c.requires.1 c.args.space c.requires.0 c.stage_table.new.image c.begin_tree.new.image _ c.stage_table.ensures c.begin_tree.ensures c.begin_tree-then-c-eq2.ensures (eq-eqb _ 2 c.if-c-eq2.true)
 
 pub returns-else-c-eq2 : goal.returns-else-c-eq2
-returns-else-c-eq2 c = one_begun c.args.image.now c.args.c c.requires.1 c.args.space c.requires.0 c.stage_table.new.1.1.0 _ c.stage_table.ensures c.begin_tree.ensures (ne_eqb _ 2 c.if-c-eq2.false)
+returns-else-c-eq2 c = one_begun c.args.image.now c.args.c c.requires.1 c.args.space c.requires.0 c.stage_table.new.image _ c.stage_table.ensures c.begin_tree.ensures (ne_eqb _ 2 c.if-c-eq2.false)

@@ -2,7 +2,6 @@
 use mathlib.Core.Path.{sym, ◌∙◌}
 use native.Mathlib.Omega.{arith}
 use lib.ListN.{length}
-use borrow.Author.Rules.{rules}
 use borrow.Author.Tests.{not-true, not-false}
 use Rattle.ivfc.specs.Views.{level_of}
 use Rattle.steps.proofs.JudgeLaws.{log4_most, ends_exist, ends_exist_both, ends_covered, ends_lower, ends_upper, ends_none}

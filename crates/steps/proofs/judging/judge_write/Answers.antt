@@ -1,22 +1,21 @@
 -- `judge_write` asks 9, then of the two blocks at the write's ends. Assumes nothing.
+use mathlib.Core.Path.{sym, ◌∙◌}
 use native.Mathlib.Omega.{arith}
 use lib.ListN.{length}
-use Rattle.number.proofs.Tests.{failed, passed}
 use Rattle.steps.proofs.ReadLaws.{in_level}
 use Rattle.steps.proofs.JudgeLaws.{write_outside, write_nothing, write_ends, end_rules}
-use borrow.Author.Rules.{rules}
 use Rattle.ivfc.proofs.ViewLaws.{log4_small, size4_small}
 use Rattle.steps.proofs.judging.judge_write.Goals as goal
 
 pub returns-then-not-lies_inside : goal.returns-then-not-lies_inside
 returns-then-not-lies_inside c =
     let a = c.args in
-    write_outside a.view a.image.now a.place a.n (failed c.lies_inside.ensures c.if-not-lies_inside.true)
+    write_outside a.view a.image.now a.place a.n (sym c.lies_inside.ensures ∙ c.if-not-lies_inside.true)
 
 pub returns-then-n-eq0 : goal.returns-then-n-eq0
 returns-then-n-eq0 c =
     let a = c.args in
-    write_nothing a.view a.image.now a.place a.n (passed c.lies_inside.ensures c.if-not-lies_inside.false) c.if-n-eq0.true
+    write_nothing a.view a.image.now a.place a.n (sym c.lies_inside.ensures ∙ c.if-not-lies_inside.false) c.if-n-eq0.true
 
 pub block_of-first-requires : goal.block_of-first-requires
 block_of-first-requires c =
@@ -27,7 +26,7 @@ overflow_add-place c =
     let a = c.args in
     omega (
       arith,
-      in_level a.view a.image.now a.place a.n (passed c.lies_inside.ensures c.if-not-lies_inside.false),
+      in_level a.view a.image.now a.place a.n (sym c.lies_inside.ensures ∙ c.if-not-lies_inside.false),
       size4_small a.view (length a.image.now) c.requires,
     )
 
@@ -38,11 +37,11 @@ block_of-last-requires c =
 pub judge_ends-requires : goal.judge_ends-requires
 judge_ends-requires c =
     let a = c.args in
-    end_rules a.view a.image.now a.place a.n (passed c.lies_inside.ensures c.if-not-lies_inside.false)
+    end_rules a.view a.image.now a.place a.n (sym c.lies_inside.ensures ∙ c.if-not-lies_inside.false)
     c.block_of-first.result c.block_of-last.result c.if-n-eq0.false c.block_of-first.ensures c.block_of-last.ensures c.requires
 
 pub returns : goal.returns
 returns c =
     let a = c.args in
-    write_ends a.view a.image.now a.place a.n (passed c.lies_inside.ensures c.if-not-lies_inside.false)
+    write_ends a.view a.image.now a.place a.n (sym c.lies_inside.ensures ∙ c.if-not-lies_inside.false)
     c.judge_ends.result c.judge_ends.ensures

@@ -2,7 +2,6 @@
 use mathlib.Core.Path.{refl}
 use Rattle.number.specs.Ranges.{part}
 use Rattle.steps.proofs.StaleLaws.{header_same, header_differs}
-use borrow.Author.Rules.{rules}
 use Rattle.steps.proofs.staleness.is_current.Goals as goal
 
 pub returns-then-same_bytes : goal.returns-then-same_bytes

@@ -1,7 +1,6 @@
 -- `partition_staged` meets its contract. Assumes nothing.
 use native.Mathlib.Omega.{arith}
 use Rattle.steps.proofs.StaleLaws.{places_read, runs_staged}
-use borrow.Author.Rules.{rules}
 use Rattle.steps.proofs.staleness.partition_staged.Goals as goal
 
 pub overflow_add-selector : goal.overflow_add-selector

@@ -1,7 +1,6 @@
 -- `run_same` meets its contract. Assumes nothing.
 use mathlib.Core.Path.{◌∙◌}
 use Rattle.steps.proofs.StaleLaws.{run_compared}
-use borrow.Author.Rules.{rules}
 use Rattle.steps.proofs.staleness.run_same.Goals as goal
 
 pub returns : goal.returns

@@ -7,7 +7,6 @@ use Rattle.number.specs.Ranges.{part}
 use Rattle.views.specs.Places.{slot_of}
 use Rattle.views.proofs.PlaceLaws.{first_there}
 use Rattle.steps.proofs.StaleLaws.{asks_last, asks_cut, one_staged, a_before, b_before, a_first, b_first}
-use borrow.Author.Rules.{rules}
 use Rattle.steps.proofs.staleness.table_staged.Goals as goal
 
 pub partition_staged-requires : goal.partition_staged-requires

@@ -3,7 +3,6 @@ use mathlib.Core.Path.{sym, ◌∙◌}
 use mathlib.Core.Bool.{true, false}
 use Rattle.steps.proofs.ReadLaws.{block_missing, block_there, block_said}
 use native.Mathlib.Omega.{arith}
-use borrow.Author.Rules.{rules}
 use Rattle.steps.proofs.viewing.judge_block.Goals as goal
 
 pub returns-then-block_count-block : goal.returns-then-block_count-block

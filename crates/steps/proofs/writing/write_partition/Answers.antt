@@ -2,7 +2,6 @@
 use Rattle.steps.proofs.SessionLaws.{view_keeps, write_refused, write_asks, write_done}
 use Rattle.layout.proofs.GuaranteeLaws.{guarantees}
 use Rattle.views.proofs.FitLaws.{space_fits, places_fit}
-use borrow.Author.Rules.{rules}
 use Rattle.steps.proofs.writing.write_partition.Goals as goal
 
 pub staged_view-view-requires : goal.staged_view-view-requires
@@ -19,15 +18,15 @@ space_of-requires c = space_fits c.args.image.now c.args.c (guarantees _ _ c.req
 pub write_level4-requires : goal.write_level4-requires
 write_level4-requires c =
     let a = c.args in
-    write_asks a.image.now a.c c.requires.0 a.session a.q c.requires.1 a.place a.bytes.now c.staged_view-view.result c.staged_view-view.ensures c.judge_write.result c.judge_write.ensures c.enum_told-1.given.1 c.space_of.result c.space_of.ensures
+    write_asks a.image.now a.c c.requires.0 a.session a.q c.requires.1 a.place a.bytes.now c.staged_view-view.result c.staged_view-view.ensures c.judge_write.result c.judge_write.ensures c.in-Accepted.is c.space_of.result c.space_of.ensures
 
 pub returns-in-Refused : goal.returns-in-Refused
 returns-in-Refused c =
     let a = c.args in
-    write_refused a.image.now a.c c.requires.0 a.session a.q c.requires.1 a.place a.bytes.now c.staged_view-view.result c.staged_view-view.ensures c.judge_write.result c.judge_write.ensures _ c.refusal-1.given.1 c.refused.result c.refused.ensures
+    write_refused a.image.now a.c c.requires.0 a.session a.q c.requires.1 a.place a.bytes.now c.staged_view-view.result c.staged_view-view.ensures c.judge_write.result c.judge_write.ensures _ c.in-Refused.is c.refused.result c.refused.ensures
 
 pub returns-in-Accepted : goal.returns-in-Accepted
 returns-in-Accepted c =
     let a = c.args in
-    write_done a.image.now a.c c.requires.0 a.session a.q c.requires.1 a.place a.bytes.now c.staged_view-view.result c.staged_view-view.ensures c.judge_write.result c.judge_write.ensures c.enum_told-1.given.1
+    write_done a.image.now a.c c.requires.0 a.session a.q c.requires.1 a.place a.bytes.now c.staged_view-view.result c.staged_view-view.ensures c.judge_write.result c.judge_write.ensures c.in-Accepted.is
     _ c.write_level4.result c.write_level4.ensures.0 c.write_level4.ensures.1 c.finish.result c.finish.ensures

@@ -2,7 +2,6 @@
 use Rattle.stores.proofs.CodeLaws.{begin_asks, begun_is}
 use Rattle.stores.proofs.OwnLaws.{own_placed}
 use native.Mathlib.Omega.{arith}
-use borrow.Author.Rules.{rules}
 use Rattle.stores.proofs.staging.begin_tree.Goals as goal
 
 pub place_of-source-requires : goal.place_of-source-requires

@@ -5,7 +5,6 @@ use Rattle.stores.proofs.OwnLaws.{own_limit}
 use native.Mathlib.Omega.{arith}
 use Prim.Native.Nat.{◌*◌}
 use mathlib.Core.Path.{ap}
-use borrow.Author.Rules.{rules}
 use Rattle.stores.proofs.staging.copy_block.Goals as goal
 
 pub overflow_mul-y : goal.overflow_mul-y

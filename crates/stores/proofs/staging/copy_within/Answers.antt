@@ -2,9 +2,7 @@ use Rattle.stores.proofs.CodeLaws.{copy_own, copy_free}
 use Rattle.stores.proofs.OwnLaws.{own_limit}
 use Rattle.number.proofs.ListLaws.{copied_turn}
 use Rattle.number.specs.Bytes.{copied}
-use lib.ListN.{length}
 use native.Mathlib.Omega.{arith}
-use Prim.Native.Nat.{◌≤◌, ◌-◌}
 use mathlib.Core.Path.{◌≡◌, refl, ap, ◌∙◌}
 use Rattle.stores.proofs.staging.copy_within.Goals as goal
 
@@ -41,7 +39,7 @@ loop-i-preserved c = (
   omega arith,
   c.store.ensures
       ∙ copied_turn c.args.image.now c.loop-i.image c.args.source c.args.target c.args.n c.loop-i.i c.loop-i.invariant.1 c.loop-i-test.true c.requires.apart,
-  c.store.auto.1.0 ∙ c.loop-i.invariant.2,
+  c.store.auto.image ∙ c.loop-i.invariant.2,
 )
 
 pub shape_of-image : goal.shape_of-image

@@ -1,12 +1,8 @@
 -- Each store is at a free place, and after i of them i bytes are copied. Assumes nothing.
-use Rattle.stores.proofs.CodeLaws.{copy_own, copy_free}
-use Rattle.stores.proofs.OwnLaws.{own_limit}
-use Rattle.number.proofs.ListLaws.{copied_turn}
 use Rattle.number.specs.Bytes.{copied}
 use lib.ListN.{length}
-use native.Mathlib.Omega.{arith}
 use Prim.Native.Nat.{◌≤◌, ◌-◌}
-use mathlib.Core.Path.{◌≡◌, refl, ap, ◌∙◌}
+use mathlib.Core.Path.{◌≡◌}
 use Rattle.stores.proofs.staging.copy_within.Given as goal
 
 abbrev pub invariant-loop-i : goal.invariant-loop-i

@@ -1,7 +1,6 @@
 -- The byte that is stored has the one bit flipped. Assumes nothing.
 use lib.ListN.{set}
 use mathlib.Core.Path.{ap, ◌∙◌}
-use borrow.Author.Rules.{rules}
 use Rattle.stores.proofs.staging.flip_bit.Goals as goal
 
 pub returns : goal.returns

@@ -4,7 +4,6 @@ use Rattle.stores.proofs.OwnLaws.{own_placed}
 use Rattle.dpfs.proofs.LevelLaws.{bit_inside1}
 use lib.ListN.{length}
 use native.Mathlib.Omega.{arith}
-use borrow.Author.Rules.{rules}
 use Rattle.stores.proofs.staging.move2.Goals as goal
 
 pub copy2-live-requires : goal.copy2-live-requires

@@ -8,7 +8,6 @@ use Rattle.number.specs.Blocks.{blocks, block_of}
 use Prim.Native.Nat.{ℕ, ◌<◌}
 use native.Mathlib.Omega.{arith}
 use mathlib.Core.Path.{◌≡◌, ap, ◌∙◌, sym, subst}
-use borrow.Author.Rules.{rules}
 use Rattle.stores.proofs.staging.move3.Goals as goal
 
 pub block_of-j-requires : goal.block_of-j-requires

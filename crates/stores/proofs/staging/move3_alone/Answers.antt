@@ -3,7 +3,6 @@ use Rattle.stores.proofs.CodeLaws.{move3_asks, move3_bit, move3_alone_is}
 use Rattle.stores.proofs.OwnLaws.{own_placed}
 use Rattle.dpfs.proofs.LevelLaws.{bit_inside2}
 use lib.ListN.{length}
-use borrow.Author.Rules.{rules}
 use Rattle.stores.proofs.staging.move3_alone.Goals as goal
 
 pub copy3-live-requires : goal.copy3-live-requires

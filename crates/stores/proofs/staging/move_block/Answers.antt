@@ -8,7 +8,6 @@ use Prim.Native.Nat.{ℕ}
 use mathlib.Core.List.{List}
 use mathlib.Core.Bool.{Bool, cond}
 use mathlib.Core.Path.{sym, ap, ◌∙◌}
-use borrow.Author.Rules.{rules}
 use Rattle.stores.proofs.staging.move_block.Goals as goal
 
 pub flip_bit-requires : goal.flip_bit-requires
@@ -16,7 +15,7 @@ flip_bit-requires c =
     let a = c.args in (
       flip_own a.space a.image.now _ a.l a.live a.b c.requires.0 c.copy_block.ensures,
       flip_free a.space a.image.now _ a.l a.live a.b c.requires.0 c.copy_block.ensures a.at c.requires.1,
-      omega (arith, c.copy_block.auto.1.0, c.requires.2),
+      omega (arith, c.copy_block.auto.image, c.requires.2),
     )
 
 pub returns-then-live-staged : goal.returns-then-live-staged

@@ -1,13 +1,9 @@
 use Rattle.stores.proofs.CodeLaws.{put_kept, put_start, put_turn, put_end, next_run, run_part, run_fits}
 use Rattle.stores.proofs.OwnLaws.{own_placed, own_kept}
 use Rattle.dpfs.specs.Free.{Free}
-use Rattle.number.specs.Frame.{Keeps}
 use Rattle.number.proofs.FrameLaws.{keeps_refl}
-use Rattle.dpfs.specs.Staging.{put}
-use lib.ListN.{length, drop}
 use native.Mathlib.Omega.{arith}
-use Prim.Native.Nat.{◌+◌, ◌-◌, ◌≤◌}
-use mathlib.Core.Path.{◌≡◌}
+use Prim.Native.Nat.{◌+◌, ◌-◌}
 use Rattle.stores.proofs.staging.put_bytes.Goals as goal
 
 pub overflow_add-end : goal.overflow_add-end

@@ -1,12 +1,8 @@
 -- After each run the bytes that are left are put as before. Assumes nothing.
-use Rattle.stores.proofs.CodeLaws.{put_kept, put_start, put_turn, put_end, next_run, run_part, run_fits}
-use Rattle.stores.proofs.OwnLaws.{own_placed, own_kept}
 use Rattle.dpfs.specs.Free.{Free}
 use Rattle.number.specs.Frame.{Keeps}
-use Rattle.number.proofs.FrameLaws.{keeps_refl}
 use Rattle.dpfs.specs.Staging.{put}
 use lib.ListN.{length, drop}
-use native.Mathlib.Omega.{arith}
 use Prim.Native.Nat.{◌+◌, ◌-◌, ◌≤◌}
 use mathlib.Core.Path.{◌≡◌}
 use Rattle.stores.proofs.staging.put_bytes.Given as goal

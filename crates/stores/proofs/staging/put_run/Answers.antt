@@ -11,7 +11,6 @@ use lib.ListN.{length}
 use native.Mathlib.Omega.{arith}
 use Prim.Native.Nat.{ℕ, ◌<◌}
 use mathlib.Core.Path.{sym, subst}
-use borrow.Author.Rules.{rules}
 use Rattle.stores.proofs.staging.put_run.Goals as goal
 
 pub block_of-b-requires : goal.block_of-b-requires
@@ -30,7 +29,7 @@ copy3-second-requires c =
     let a = c.args in
     let w = own_placed a.space a.image.now c.requires.0 a.tree c.requires.1 in
     let i = run_starts a.space a.tree a.image.now c.requires.0 c.requires.1 a.x a.values.now c.requires.2 c.requires.3 in
-    (subst (WellPlaced a.tree) (sym c.move3.auto.1.1.0) w, subst (λ (b : ℕ). bit_byte b < a.tree.level2.size) (sym c.block_of-b.ensures) (held2 a.tree _ w a.x i))
+    (subst (WellPlaced a.tree) (sym c.move3.auto.image) w, subst (λ (b : ℕ). bit_byte b < a.tree.level2.size) (sym c.block_of-b.ensures) (held2 a.tree _ w a.x i))
 
 pub place_of-requires : goal.place_of-requires
 place_of-requires c =
@@ -45,7 +44,7 @@ store_bytes-requires c =
     let w = own_placed a.space a.image.now c.requires.0 a.tree c.requires.1 in
     let room = run_room a.tree a.x a.tree.level3.size (length a.values.now) c.requires.2 c.requires.3 in (
       run_own a.space a.tree a.image.now c.requires.0 c.requires.1 a.x a.values.now c.requires.2 c.requires.3 _ _ _ _ c.block_of-b.ensures c.move3.ensures c.copy3-second.ensures c.place_of.ensures,
-      omega (arith, c.place_of.ensures, c.move3.auto.1.1.0, place_ends a.tree.level3 (length a.image.now) w.inside3 c.copy3-second.result a.x (length a.values.now) room),
+      omega (arith, c.place_of.ensures, c.move3.auto.image, place_ends a.tree.level3 (length a.image.now) w.inside3 c.copy3-second.result a.x (length a.values.now) room),
       run_free a.space a.tree a.image.now c.requires.0 c.requires.1 a.x a.values.now c.requires.2 c.requires.3 _ _ _ _ c.block_of-b.ensures c.move3.ensures c.copy3-second.ensures c.place_of.ensures,
     )
 

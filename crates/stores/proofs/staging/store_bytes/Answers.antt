@@ -3,13 +3,12 @@ use Rattle.stores.proofs.OwnLaws.{own_limit, own_kept}
 use Rattle.dpfs.specs.Free.{Free}
 use Rattle.number.proofs.ListLaws.{sets_start, sets_step, sets_end}
 use Rattle.number.proofs.FrameLaws.{keeps_refl}
-use Rattle.number.specs.Frame.{Keeps}
 use lib.Seq.{sets}
-use lib.ListN.{length, drop}
+use lib.ListN.{drop}
 use native.Mathlib.Omega.{arith}
-use Prim.Native.Nat.{ℕ, ◌+◌, ◌≤◌, ◌-◌}
+use Prim.Native.Nat.{ℕ, ◌+◌}
 use mathlib.Core.List.{List}
-use mathlib.Core.Path.{◌≡◌, sym, ap, ◌∙◌}
+use mathlib.Core.Path.{sym, ap, ◌∙◌}
 use Rattle.stores.proofs.staging.store_bytes.Goals as goal
 
 pub loop-i-init : goal.loop-i-init

@@ -1,16 +1,10 @@
 -- Each store is at a free place, and the bytes that are left are stored as before. Assumes nothing.
-use Rattle.stores.proofs.CodeLaws.{still_free, store_keeps}
-use Rattle.stores.proofs.OwnLaws.{own_limit, own_kept}
 use Rattle.dpfs.specs.Free.{Free}
-use Rattle.number.proofs.ListLaws.{sets_start, sets_step, sets_end}
-use Rattle.number.proofs.FrameLaws.{keeps_refl}
 use Rattle.number.specs.Frame.{Keeps}
 use lib.Seq.{sets}
 use lib.ListN.{length, drop}
-use native.Mathlib.Omega.{arith}
-use Prim.Native.Nat.{ℕ, ◌+◌, ◌≤◌, ◌-◌}
-use mathlib.Core.List.{List}
-use mathlib.Core.Path.{◌≡◌, sym, ap, ◌∙◌}
+use Prim.Native.Nat.{◌+◌, ◌≤◌, ◌-◌}
+use mathlib.Core.Path.{◌≡◌}
 use Rattle.stores.proofs.staging.store_bytes.Given as goal
 
 abbrev pub invariant-loop-i : goal.invariant-loop-i

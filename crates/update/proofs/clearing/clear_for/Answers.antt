@@ -1,8 +1,14 @@
 -- `clear_for`: a block at an end that is not covered in full is verified. Assumes nothing.
 use Prim.Native.Nat.{ℕ, ◌+◌, ◌≤◌, ◌<◌, ◌^◌}
 use native.Mathlib.Omega.{arith}
-use borrow.Author.Rules.{rules}
 use lib.ListN.{length}
+use mathlib.Core.List.{List}
+use mathlib.Core.Path.{◌≡◌}
+use Rattle.number.specs.declared.Level.{Level}
+use Rattle.dpfs.specs.declared.Space.{Space}
+use Rattle.ivfc.specs.declared.View.{View}
+use Rattle.ivfc.specs.Views.{level_of}
+use Rattle.update.specs.Rules.{EndsRules}
 use Rattle.number.specs.Blocks.{blocks}
 use Rattle.ivfc.proofs.ViewLaws.{level_small}
 use Rattle.update.proofs.StagedLaws.{staged}
@@ -10,25 +16,26 @@ use Rattle.update.proofs.CodeLaws.{ends_fit, ends_ordered, ends_exist, first_kno
 use Rattle.update.proofs.clearing.clear_for.Goals as goal
 
 -- what is asked of a block at an end
-asked : (c : goal.After-level_of-level) (b : ℕ) → b ≤ c.args.last
-    → (c.level_of-level.result.log ≤ 16) × (c.level_of-level.result.size ≤ 0x4000000) × (b < blocks c.level_of-level.result) × (c.args.x + c.args.n < 2 ^ 64)
-asked c b o =
-    let a = c.args in
-    let e = c.level_of-level.ensures in
-    let small = level_small a.view (length a.image.now) (staged c.requires.own).rules 4 (omega arith) in (
-      rw e ((staged c.requires.own).rules.hash.logs 4 (omega arith)).1,
+asked : (space : Space) (view : View) (image : List ℕ) (x n first last : ℕ) → EndsRules space view image x n first last → (l : Level) → l ≡ level_of view 4
+    → (b : ℕ) → b ≤ last → (l.log ≤ 16) × (l.size ≤ 0x4000000) × (b < blocks l) × (x + n < 2 ^ 64)
+asked space view image x n first last w l e b o =
+    let small = level_small view (length image) (staged w.own).rules 4 (omega arith) in (
+      rw e ((staged w.own).rules.hash.logs 4 (omega arith)).1,
       rw e small,
-      rw e (omega (arith, ends_exist a.space a.view a.image.now a.x a.n a.first a.last c.requires)),
-      omega (arith, ends_fit a.space a.view a.image.now a.x a.n a.first a.last c.requires, small),
+      rw e (omega (arith, ends_exist space view image x n first last w)),
+      omega (arith, ends_fit space view image x n first last w, small),
     )
 
 pub covers-front-requires : goal.covers-front-requires
 covers-front-requires c =
     let a = c.args in
-    asked c a.first (ends_ordered a.space a.view a.image.now a.x a.n a.first a.last c.requires)
+    asked a.space a.view a.image.now a.x a.n a.first a.last c.requires _ c.level_of-level.ensures a.first
+    (ends_ordered a.space a.view a.image.now a.x a.n a.first a.last c.requires)
 
 pub covers-back-requires : goal.covers-back-requires
-covers-back-requires c = asked c.before _ (omega arith)
+covers-back-requires c =
+    let a = c.args in
+    asked a.space a.view a.image.now a.x a.n a.first a.last c.requires _ c.level_of-level.ensures a.last (omega arith)
 
 pub clear_above-requires : goal.clear_above-requires
 clear_above-requires c =

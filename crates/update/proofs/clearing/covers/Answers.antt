@@ -1,7 +1,6 @@
 use Rattle.number.proofs.BlockLaws.{exists_byte}
 use Rattle.update.proofs.JudgeLaws.{start_inside, stop_inside, covers_is}
 use native.Mathlib.Omega.{arith}
-use borrow.Author.Rules.{rules}
 use Rattle.update.proofs.clearing.covers.Goals as goal
 
 pub overflow_mul-start : goal.overflow_mul-start

@@ -1,7 +1,6 @@
 use mathlib.Core.Path.{◌≡◌, refl, ap, ◌∙◌}
-use Prim.Native.Nat.{ℕ, ◌≤◌, ◌<◌, ◌-◌}
+use Prim.Native.Nat.{ℕ, ◌<◌, ◌-◌}
 use native.Mathlib.Omega.{arith}
-use lib.ListN.{length}
 use Rattle.ivfc.specs.Views.{matches}
 use Rattle.ivfc.proofs.ViewLaws.{block_small}
 use Rattle.update.proofs.ClearLaws.{all_emptied, emptied_kept, level_step, level_none}
@@ -36,7 +35,7 @@ loop-b-preserved c =
     let o = c.empty_one in (
       omega (arith, l.invariant.0),
       omega (arith, l.invariant.0, l.invariant.1),
-      o.auto.1.1.0 ∙ l.invariant.2,
+      o.auto.image ∙ l.invariant.2,
       level_step a.space a.view a.image.now (staged p.0) a.i a.from l.b p.1 p.2 l.invariant.0 (omega (arith, p.3)) l.image _ l.invariant.3 o.ensures,
     )
 

@@ -1,12 +1,9 @@
 -- `empty_level` empties one block after another. The loop's invariant: those before b are. Assumes nothing.
-use mathlib.Core.Path.{◌≡◌, refl, ap, ◌∙◌}
-use Prim.Native.Nat.{ℕ, ◌≤◌, ◌<◌, ◌-◌}
-use native.Mathlib.Omega.{arith}
+use mathlib.Core.Path.{◌≡◌}
+use Prim.Native.Nat.{◌≤◌, ◌-◌}
 use lib.ListN.{length}
 use Rattle.ivfc.specs.Views.{matches}
-use Rattle.ivfc.proofs.ViewLaws.{block_small}
-use Rattle.update.proofs.ClearLaws.{all_emptied, emptied_kept, level_step, level_none}
-use Rattle.update.proofs.StagedLaws.{staged}
+use Rattle.update.proofs.ClearLaws.{all_emptied}
 use Rattle.update.proofs.clearing.empty_level.Given as goal
 
 abbrev pub invariant-loop-b : goal.invariant-loop-b

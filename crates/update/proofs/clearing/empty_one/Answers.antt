@@ -1,7 +1,5 @@
 -- `empty_one` empties a block whose entry does not match. Assumes nothing.
-use mathlib.Core.Path.{◌∙◌}
-use borrow.Author.Rules.{rules}
-use Rattle.number.proofs.Tests.{failed, passed}
+use mathlib.Core.Path.{sym, ◌∙◌}
 use Rattle.ivfc.specs.Views.{matches}
 use Rattle.update.proofs.StagedLaws.{staged}
 use Rattle.update.proofs.ClearLaws.{one_stays, one_emptied}
@@ -16,9 +14,9 @@ returns-then-not-block_matches c =
     let a = c.args in
     c.empty_block.ensures
     ∙ one_emptied a.view (matches a.view a.image.now a.i) a.i a.b a.image.now
-    (failed c.block_matches.ensures c.if-not-block_matches.true)
+    (sym c.block_matches.ensures ∙ c.if-not-block_matches.true)
 
 pub returns-else-not-block_matches : goal.returns-else-not-block_matches
 returns-else-not-block_matches c =
     let a = c.args in
-    one_stays a.view (matches a.view a.image.now a.i) a.i a.b a.image.now (passed c.block_matches.ensures c.if-not-block_matches.false)
+    one_stays a.view (matches a.view a.image.now a.i) a.i a.b a.image.now (sym c.block_matches.ensures ∙ c.if-not-block_matches.false)

@@ -1,8 +1,7 @@
 use mathlib.Core.Path.{◌≡◌, refl, sym, ap, ◌∙◌}
 use mathlib.Core.List.{List}
-use Prim.Native.Nat.{ℕ, ◌≤◌, ◌-◌, ◌+◌}
+use Prim.Native.Nat.{ℕ, ◌+◌}
 use native.Mathlib.Omega.{arith}
-use borrow.Author.Rules.{rules}
 use lib.ListN.{length, replicate, length-replicate}
 use Rattle.ivfc.proofs.ViewLaws.{level_small}
 use Rattle.update.specs.Staged.{put_level}
@@ -43,7 +42,7 @@ loop-done-preserved c =
     let p = c.put_level in (
       refl,
       omega (arith, e, l.invariant.1),
-      p.auto.1.1.0 ∙ l.invariant.2,
+      p.auto.image ∙ l.invariant.2,
       p.ensures
           ∙ ap (λ (z : List ℕ). put_level a.view a.i (a.x + l.done) z l.image) (take_zeros 64 k (omega (arith, e)))
           ∙ ap (λ (t : List ℕ). put_level a.view a.i (a.x + l.done) (replicate k 0) t) l.invariant.3

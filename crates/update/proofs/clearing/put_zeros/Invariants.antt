@@ -1,16 +1,8 @@
 -- `put_zeros` puts zeros run by run. The loop's invariant: those so far are put as one run. Assumes nothing.
-use mathlib.Core.Path.{◌≡◌, refl, sym, ap, ◌∙◌}
-use mathlib.Core.List.{List}
-use Prim.Native.Nat.{ℕ, ◌≤◌, ◌-◌, ◌+◌}
-use native.Mathlib.Omega.{arith}
-use borrow.Author.Rules.{rules}
-use lib.ListN.{length, replicate, length-replicate}
-use Rattle.ivfc.proofs.ViewLaws.{level_small}
+use mathlib.Core.Path.{◌≡◌}
+use Prim.Native.Nat.{◌≤◌, ◌-◌}
+use lib.ListN.{length, replicate}
 use Rattle.update.specs.Staged.{put_level}
-use Rattle.update.proofs.ImageLaws.{level_none}
-use Rattle.number.proofs.ListLaws.{take_zeros}
-use Rattle.update.proofs.ClearLaws.{zeros_more, zeros_kept}
-use Rattle.update.proofs.StagedLaws.{staged}
 use Rattle.update.proofs.clearing.put_zeros.Given as goal
 
 abbrev pub invariant-loop-done : goal.invariant-loop-done

@@ -1,12 +1,13 @@
-use mathlib.Core.Path.{◌≡◌, refl, sym, ◌∙◌}
-use Prim.Native.Nat.{suc, ◌≤◌, ◌-◌, ◌+◌, ◌*◌}
+use mathlib.Core.Path.{refl, sym, ◌∙◌}
+use Prim.Native.Nat.{ℕ, suc, ◌≤◌, ◌<◌, ◌+◌, ◌*◌}
 use native.Mathlib.Omega.{arith}
 use borrow.Author.Rules.{rules}
-use lib.ListN.{length}
+use Rattle.number.specs.Blocks.{blocks}
+use Rattle.ivfc.specs.declared.View.{View}
+use Rattle.ivfc.specs.Rules.{ViewRules}
 use Rattle.ivfc.specs.Views.{level_of, content_of}
 use Rattle.ivfc.proofs.ViewLaws.{level_small}
 use Rattle.ivfc.proofs.VerifiedLaws.{entry_inside}
-use Rattle.update.specs.Writing.{zero_among}
 use Rattle.update.proofs.ClearLaws.{among_here, among_next, among_end}
 use Rattle.update.proofs.zeros.zero_among.Goals as goal
 
@@ -14,29 +15,30 @@ pub loop-b-init : goal.loop-b-init
 loop-b-init c = (omega arith, omega arith, refl, refl)
 
 -- the entries are there
-inside : (c : goal.Start) → (32 * c.args.last + 32 ≤ (level_of c.args.view c.args.i).size) × ((level_of c.args.view c.args.i).size ≤ 0x4000000)
-inside c = (
-  entry_inside (level_of c.args.view) c.requires.0.hash c.args.i c.args.last c.requires.1 c.requires.3,
-  level_small c.args.view _ c.requires.0 c.args.i (omega arith),
+inside : (view : View) (n : ℕ) → ViewRules view n → (i last : ℕ) → i < 4 → last < blocks (level_of view (suc i))
+    → (32 * last + 32 ≤ (level_of view i).size) × ((level_of view i).size ≤ 0x4000000)
+inside view n rules i last h e = (
+  entry_inside (level_of view) rules.hash i last h e,
+  level_small view n rules i (omega arith),
 )
 
 pub overflow_mul-b : goal.overflow_mul-b
-overflow_mul-b c = omega (arith, inside c.before.before.before)
+overflow_mul-b c = omega (arith, inside c.args.view _ c.requires.0 c.args.i c.args.last c.requires.1 c.requires.3)
 
 pub gather-requires : goal.gather-requires
 gather-requires c =
-    (c.requires.0, omega arith, omega (arith, inside c.before.before.before.before, c.loop-b.invariant.2))
+    (c.requires.0, omega arith, omega (arith, inside c.args.view _ c.requires.0 c.args.i c.args.last c.requires.1 c.requires.3, c.loop-b.invariant.2))
 
 pub returns-then-zero_entry : goal.returns-then-zero_entry
 returns-then-zero_entry c =
     let l = c.loop-b in
     let g = c.gather in
     sym (l.invariant.3
-    ∙ among_here (content_of c.args.view c.args.image.now c.args.i) c.args.last l.b g.new.1.1.1.1.0 (g.ensures ∙ rw l.invariant.2) (omega arith)
+    ∙ among_here (content_of c.args.view c.args.image.now c.args.i) c.args.last l.b g.new.buffer (g.ensures ∙ rw l.invariant.2) (omega arith)
     (sym c.zero_entry.ensures ∙ c.if-zero_entry.true))
 
 pub overflow_add-b : goal.overflow_add-b
-overflow_add-b c = omega (arith, inside c.before.before.before.before.before.before.before.before.before)
+overflow_add-b c = omega (arith, inside c.args.view _ c.requires.0 c.args.i c.args.last c.requires.1 c.requires.3)
 
 pub loop-b-smaller : goal.loop-b-smaller
 loop-b-smaller c = omega arith
@@ -47,9 +49,9 @@ loop-b-preserved c =
     let g = c.gather in (
       omega arith,
       omega arith,
-      g.auto.1.1.1.1.0 ∙ l.invariant.2,
+      g.auto.buffer ∙ l.invariant.2,
       l.invariant.3
-          ∙ among_next (content_of c.args.view c.args.image.now c.args.i) c.args.last l.b g.new.1.1.1.1.0 (g.ensures ∙ rw l.invariant.2) (omega arith)
+          ∙ among_next (content_of c.args.view c.args.image.now c.args.i) c.args.last l.b g.new.buffer (g.ensures ∙ rw l.invariant.2) (omega arith)
           (sym c.zero_entry.ensures ∙ c.if-zero_entry.false),
     )
 

@@ -1,14 +1,9 @@
 -- `zero_among` looks at one entry after another. The loop's invariant: none before was all zero. Assumes nothing.
-use mathlib.Core.Path.{◌≡◌, refl, sym, ◌∙◌}
-use Prim.Native.Nat.{suc, ◌≤◌, ◌-◌, ◌+◌, ◌*◌}
-use native.Mathlib.Omega.{arith}
-use borrow.Author.Rules.{rules}
+use mathlib.Core.Path.{◌≡◌}
+use Prim.Native.Nat.{suc, ◌≤◌, ◌-◌}
 use lib.ListN.{length}
-use Rattle.ivfc.specs.Views.{level_of, content_of}
-use Rattle.ivfc.proofs.ViewLaws.{level_small}
-use Rattle.ivfc.proofs.VerifiedLaws.{entry_inside}
+use Rattle.ivfc.specs.Views.{content_of}
 use Rattle.update.specs.Writing.{zero_among}
-use Rattle.update.proofs.ClearLaws.{among_here, among_next, among_end}
 use Rattle.update.proofs.zeros.zero_among.Given as goal
 
 abbrev pub invariant-loop-b : goal.invariant-loop-b

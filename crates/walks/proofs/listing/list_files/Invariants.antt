@@ -1,13 +1,10 @@
 -- `walks::listing::list_files` meets its contract. Assumes nothing.
 use Prim.Native.Nat.{◌+◌, ◌≤◌}
-use mathlib.Core.Path.{◌≡◌, refl, sym, ◌∙◌}
-use native.Mathlib.Omega.{arith}
+use mathlib.Core.Path.{◌≡◌}
 use lib.ListN.{length}
 use Rattle.views.specs.Versions.{version_of}
 use Rattle.names.specs.Listing.{files}
 use Rattle.names.specs.Walks.{unvisited}
-use Rattle.names.proofs.EntryLaws.{place_ends}
-use Rattle.names.proofs.WalkLaws.{onward_start, stops, stops_goes, Gained, gained, met_own, file_goes, file_stops, file_ends}
 use Rattle.entries.specs.Known.{Knows}
 use Rattle.walks.proofs.FolderLaws.{Reaches}
 use Rattle.walks.proofs.listing.list_files.Given as goal

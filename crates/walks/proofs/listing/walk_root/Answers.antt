@@ -16,12 +16,6 @@ slice_bounds-list_folder-end-2 c = sym (length-replicate {A = ℕ} 87382 0)
 pub list_folder-requires : goal.list_folder-requires
 list_folder-requires c = (c.requires.0, ready_root c.args.s _ _ 104858 87382 c.requires.1 refl refl)
 
-pub shape_of-known : goal.shape_of-known
-shape_of-known c = c.list_folder.auto.folder_marks.1.1.0
-
-pub shape_of-row : goal.shape_of-row
-shape_of-row c = c.list_folder.auto.folder_marks.1.1.1.1.1.0
-
 pub returns : goal.returns
 returns c =
     let r = root_listed c.args.s (version_of c.args.view c.args.image.now).bytes (version_of c.args.view c.args.image.now).verified c.args.row.now _ _ _ _ (c.list_folder.ensures.walks c.args.row.now [] refl (holds_root c.args.s (version_of c.args.view c.args.image.now).bytes c.args.row.now 104858 87382)) in

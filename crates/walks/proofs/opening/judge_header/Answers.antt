@@ -4,7 +4,6 @@ use native.Mathlib.Omega.{arith}
 use Rattle.views.specs.Versions.{version_of}
 use Rattle.names.proofs.OpenLaws.{entries_ask, judged_yes, judged_no}
 use Rattle.entries.proofs.ReadLaws.{level4_is, header_is}
-use borrow.Author.Rules.{rules}
 use Rattle.views.proofs.VersionLaws.{version_size}
 use Rattle.walks.proofs.opening.judge_header.Goals as goal
 
@@ -18,9 +17,6 @@ pub read_entries-requires : goal.read_entries-requires
 read_entries-requires c =
     let a = entries_ask _ (version_of c.args.view c.args.image.now).bytes c.args.view.level4.log c.args.view.level4.size _ c.save_of.ensures (sym c.well_formed-2.ensures ∙ c.if-well_formed.true) in
     (c.requires.0, a.0, a.1, a.2)
-
-pub shape_of-known : goal.shape_of-known
-shape_of-known c = c.read_entries.auto.1.1.1.0
 
 pub returns-then-well_formed : goal.returns-then-well_formed
 returns-then-well_formed c =

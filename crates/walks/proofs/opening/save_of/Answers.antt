@@ -2,7 +2,6 @@
 use native.Mathlib.Omega.{arith}
 use Rattle.views.specs.Versions.{version_of}
 use Rattle.names.proofs.OpenLaws.{formed, save_is}
-use borrow.Author.Rules.{rules}
 use Rattle.walks.proofs.opening.save_of.Goals as goal
 
 pub table_of-folders-requires : goal.table_of-folders-requires

@@ -9,7 +9,6 @@ use Rattle.names.specs.Entries.{read_at}
 use Rattle.names.specs.Searching.{chain}
 use Rattle.names.proofs.EntryLaws.{read_place}
 use Rattle.names.proofs.HashLaws.{found_is}
-use borrow.Author.Rules.{rules}
 use Rattle.ivfc.proofs.ViewLaws.{size4_small}
 use Rattle.walks.proofs.searching.find.Goals as goal
 
@@ -22,38 +21,20 @@ overflow_add-at c = omega (arith, c.requires.3, c.bucket_of.ensures.1, size4_sma
 pub read_at-word-requires : goal.read_at-word-requires
 read_at-word-requires c = (c.requires.0, omega arith, omega (arith, c.requires.3, c.bucket_of.ensures.1))
 
-pub enum_told-1 : goal.enum_told-1
-enum_told-1 c = c.in-Invalid.keys1
-
-pub enum_known-word : goal.enum_known-word
-enum_known-word c = c.in-Unverified.keys2
-
-pub enum_known-word-in-At-1 : goal.enum_known-word-in-At-1
-enum_known-word-in-At-1 c = c.in-At.keys3
-
 pub word_at-requires : goal.word_at-requires
 word_at-requires c = (c.requires.0.rules, omega (arith, c.requires.3, c.bucket_of.ensures.1))
 
 pub search_chain-requires : goal.search_chain-requires
 search_chain-requires c = (record { rules = c.requires.0.rules; knows = c.read_at-word.ensures.1 }, c.requires.1)
 
-pub shape_of-known-in-Invalid : goal.shape_of-known-in-Invalid
-shape_of-known-in-Invalid c = c.read_at-word.auto.1.1.0
-
 pub returns-in-Invalid : goal.returns-in-Invalid
-returns-in-Invalid c = found_is c.args.s (version_of c.args.view c.args.image.now).bytes (version_of c.args.view c.args.image.now).verified c.args.parent c.args.name.now _ _ _ c.bucket_of.ensures.0 (c.read_at-word.ensures.0 ∙ ap (λ (l : ℕ). read_at (version_of c.args.view c.args.image.now).verified l (c.args.s.hash + 4 * c.bucket_of.result) 4) (sym c.requires.1.logs)) c.enum_told-1.given.1
-
-pub shape_of-known-in-Unverified : goal.shape_of-known-in-Unverified
-shape_of-known-in-Unverified c = c.read_at-word.auto.1.1.0
+returns-in-Invalid c = found_is c.args.s (version_of c.args.view c.args.image.now).bytes (version_of c.args.view c.args.image.now).verified c.args.parent c.args.name.now _ _ _ c.bucket_of.ensures.0 (c.read_at-word.ensures.0 ∙ ap (λ (l : ℕ). read_at (version_of c.args.view c.args.image.now).verified l (c.args.s.hash + 4 * c.bucket_of.result) 4) (sym c.requires.1.logs)) c.in-Invalid.is
 
 pub returns-in-Unverified : goal.returns-in-Unverified
-returns-in-Unverified c = found_is c.args.s (version_of c.args.view c.args.image.now).bytes (version_of c.args.view c.args.image.now).verified c.args.parent c.args.name.now _ _ _ c.bucket_of.ensures.0 (c.read_at-word.ensures.0 ∙ ap (λ (l : ℕ). read_at (version_of c.args.view c.args.image.now).verified l (c.args.s.hash + 4 * c.bucket_of.result) 4) (sym c.requires.1.logs)) c.word-1.given.1
-
-pub shape_of-known-in-At : goal.shape_of-known-in-At
-shape_of-known-in-At c = c.search_chain.auto.1.1.1.0 ∙ c.read_at-word.auto.1.1.0
+returns-in-Unverified c = found_is c.args.s (version_of c.args.view c.args.image.now).bytes (version_of c.args.view c.args.image.now).verified c.args.parent c.args.name.now _ _ _ c.bucket_of.ensures.0 (c.read_at-word.ensures.0 ∙ ap (λ (l : ℕ). read_at (version_of c.args.view c.args.image.now).verified l (c.args.s.hash + 4 * c.bucket_of.result) 4) (sym c.requires.1.logs)) c.in-Unverified.is
 
 pub returns-in-At : goal.returns-in-At
 returns-in-At c =
     c.search_chain.ensures
-    ∙ ap (λ (f : ℕ). chain c.args.s (version_of c.args.view c.args.image.now).bytes (version_of c.args.view c.args.image.now).verified c.args.parent c.args.name.now f []) (c.word_at.ensures ∙ ap (le32 (version_of c.args.view c.args.image.now).bytes) (sym (read_place _ _ _ _ _ (sym c.read_at-word.ensures.0 ∙ c.word-in-At-1.given.1))))
-    ∙ found_is c.args.s (version_of c.args.view c.args.image.now).bytes (version_of c.args.view c.args.image.now).verified c.args.parent c.args.name.now _ _ _ c.bucket_of.ensures.0 (c.read_at-word.ensures.0 ∙ ap (λ (l : ℕ). read_at (version_of c.args.view c.args.image.now).verified l (c.args.s.hash + 4 * c.bucket_of.result) 4) (sym c.requires.1.logs)) c.word-in-At-1.given.1
+    ∙ ap (λ (f : ℕ). chain c.args.s (version_of c.args.view c.args.image.now).bytes (version_of c.args.view c.args.image.now).verified c.args.parent c.args.name.now f []) (c.word_at.ensures ∙ ap (le32 (version_of c.args.view c.args.image.now).bytes) (sym (read_place _ _ _ _ _ (sym c.read_at-word.ensures.0 ∙ c.in-At.is))))
+    ∙ found_is c.args.s (version_of c.args.view c.args.image.now).bytes (version_of c.args.view c.args.image.now).verified c.args.parent c.args.name.now _ _ _ c.bucket_of.ensures.0 (c.read_at-word.ensures.0 ∙ ap (λ (l : ℕ). read_at (version_of c.args.view c.args.image.now).verified l (c.args.s.hash + 4 * c.bucket_of.result) 4) (sym c.requires.1.logs)) c.in-At.is

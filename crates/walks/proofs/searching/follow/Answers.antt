@@ -16,54 +16,33 @@ returns-then-f-eq0 c = (link_zero c.args.s (version_of c.args.view c.args.image.
 pub reach-entry-requires : goal.reach-entry-requires
 reach-entry-requires c = (c.requires.0, omega (arith, c.requires.1.file), c.requires.1.files)
 
-pub enum_told-1 : goal.enum_told-1
-enum_told-1 c = c.in-Invalid.keys1
-
-pub enum_known-entry : goal.enum_known-entry
-enum_known-entry c = c.in-Unverified.keys2
-
-pub enum_known-entry-in-At-1 : goal.enum_known-entry-in-At-1
-enum_known-entry-in-At-1 c = c.in-At.keys3
-
 pub is_named-requires : goal.is_named-requires
 is_named-requires c =
-    let q = admit_at (version_of c.args.view c.args.image.now).verified c.args.view.level4.log c.args.s.files false c.args.f _ (sym c.reach-entry.ensures.0 ∙ c.entry-in-At-1.given.1) in
+    let q = admit_at (version_of c.args.view c.args.image.now).verified c.args.view.level4.log c.args.s.files false c.args.f _ (sym c.reach-entry.ensures.0 ∙ c.in-At.is) in
     (c.requires.0.rules, q.2, omega (arith, q.2, c.requires.1.files, c.requires.1.file, place_ends c.args.s.files c.args.f q.1))
 
 pub field_of-requires : goal.field_of-requires
 field_of-requires c =
-    let q = admit_at (version_of c.args.view c.args.image.now).verified c.args.view.level4.log c.args.s.files false c.args.f _ (sym c.reach-entry.ensures.0 ∙ c.entry-in-At-1.given.1) in
+    let q = admit_at (version_of c.args.view c.args.image.now).verified c.args.view.level4.log c.args.s.files false c.args.f _ (sym c.reach-entry.ensures.0 ∙ c.in-At.is) in
     (c.requires.0.rules, omega (arith, c.requires.1.files, c.requires.1.file, place_ends c.args.s.files c.args.f q.1))
 
-pub shape_of-known-in-Invalid : goal.shape_of-known-in-Invalid
-shape_of-known-in-Invalid c = c.reach-entry.auto.1.1.0
-
 pub returns-in-Invalid : goal.returns-in-Invalid
-returns-in-Invalid c = (link_is c.args.s (version_of c.args.view c.args.image.now).bytes (version_of c.args.view c.args.image.now).verified c.args.parent c.args.name.now c.args.f c.if-f-eq0.false _ (ap (λ (l : ℕ). admit (version_of c.args.view c.args.image.now).verified l c.args.s.files false c.args.f) c.requires.1.logs ∙ sym c.reach-entry.ensures.0 ∙ c.enum_told-1.given.1), c.reach-entry.ensures.1)
-
-pub shape_of-known-in-Unverified : goal.shape_of-known-in-Unverified
-shape_of-known-in-Unverified c = c.reach-entry.auto.1.1.0
+returns-in-Invalid c = (link_is c.args.s (version_of c.args.view c.args.image.now).bytes (version_of c.args.view c.args.image.now).verified c.args.parent c.args.name.now c.args.f c.if-f-eq0.false _ (ap (λ (l : ℕ). admit (version_of c.args.view c.args.image.now).verified l c.args.s.files false c.args.f) c.requires.1.logs ∙ sym c.reach-entry.ensures.0 ∙ c.in-Invalid.is), c.reach-entry.ensures.1)
 
 pub returns-in-Unverified : goal.returns-in-Unverified
-returns-in-Unverified c = (link_is c.args.s (version_of c.args.view c.args.image.now).bytes (version_of c.args.view c.args.image.now).verified c.args.parent c.args.name.now c.args.f c.if-f-eq0.false _ (ap (λ (l : ℕ). admit (version_of c.args.view c.args.image.now).verified l c.args.s.files false c.args.f) c.requires.1.logs ∙ sym c.reach-entry.ensures.0 ∙ c.entry-1.given.1), c.reach-entry.ensures.1)
-
-pub shape_of-known-then-is_named : goal.shape_of-known-then-is_named
-shape_of-known-then-is_named c = c.reach-entry.auto.1.1.0
+returns-in-Unverified c = (link_is c.args.s (version_of c.args.view c.args.image.now).bytes (version_of c.args.view c.args.image.now).verified c.args.parent c.args.name.now c.args.f c.if-f-eq0.false _ (ap (λ (l : ℕ). admit (version_of c.args.view c.args.image.now).verified l c.args.s.files false c.args.f) c.requires.1.logs ∙ sym c.reach-entry.ensures.0 ∙ c.in-Unverified.is), c.reach-entry.ensures.1)
 
 pub returns-then-is_named : goal.returns-then-is_named
 returns-then-is_named c = (
   link_named c.args.s (version_of c.args.view c.args.image.now).bytes (version_of c.args.view c.args.image.now).verified c.args.parent c.args.name.now c.args.f true (sym c.is_named.ensures ∙ c.if-is_named.true)
-      ∙ link_is c.args.s (version_of c.args.view c.args.image.now).bytes (version_of c.args.view c.args.image.now).verified c.args.parent c.args.name.now c.args.f c.if-f-eq0.false _ (ap (λ (l : ℕ). admit (version_of c.args.view c.args.image.now).verified l c.args.s.files false c.args.f) c.requires.1.logs ∙ sym c.reach-entry.ensures.0 ∙ c.entry-in-At-1.given.1),
+      ∙ link_is c.args.s (version_of c.args.view c.args.image.now).bytes (version_of c.args.view c.args.image.now).verified c.args.parent c.args.name.now c.args.f c.if-f-eq0.false _ (ap (λ (l : ℕ). admit (version_of c.args.view c.args.image.now).verified l c.args.s.files false c.args.f) c.requires.1.logs ∙ sym c.reach-entry.ensures.0 ∙ c.in-At.is),
   c.reach-entry.ensures.1,
 )
-
-pub shape_of-known-else-is_named : goal.shape_of-known-else-is_named
-shape_of-known-else-is_named c = c.reach-entry.auto.1.1.0
 
 pub returns-else-is_named : goal.returns-else-is_named
 returns-else-is_named c = (
   ap (λ (x : ℕ). link.Next x) c.field_of.ensures
       ∙ link_named c.args.s (version_of c.args.view c.args.image.now).bytes (version_of c.args.view c.args.image.now).verified c.args.parent c.args.name.now c.args.f false (sym c.is_named.ensures ∙ c.if-is_named.false)
-      ∙ link_is c.args.s (version_of c.args.view c.args.image.now).bytes (version_of c.args.view c.args.image.now).verified c.args.parent c.args.name.now c.args.f c.if-f-eq0.false _ (ap (λ (l : ℕ). admit (version_of c.args.view c.args.image.now).verified l c.args.s.files false c.args.f) c.requires.1.logs ∙ sym c.reach-entry.ensures.0 ∙ c.entry-in-At-1.given.1),
+      ∙ link_is c.args.s (version_of c.args.view c.args.image.now).bytes (version_of c.args.view c.args.image.now).verified c.args.parent c.args.name.now c.args.f c.if-f-eq0.false _ (ap (λ (l : ℕ). admit (version_of c.args.view c.args.image.now).verified l c.args.s.files false c.args.f) c.requires.1.logs ∙ sym c.reach-entry.ensures.0 ∙ c.in-At.is),
   c.reach-entry.ensures.1,
 )

@@ -5,7 +5,6 @@ use native.Mathlib.Omega.{arith}
 use Rattle.views.specs.Versions.{version_of}
 use Rattle.names.proofs.HashLaws.{named_is}
 use Rattle.entries.proofs.ReadLaws.{level4_is, bytes_at}
-use borrow.Author.Rules.{rules}
 use Rattle.ivfc.proofs.ViewLaws.{size4_small}
 use Rattle.walks.proofs.searching.is_named.Goals as goal
 

@@ -1,14 +1,7 @@
-use Prim.Native.Nat.{◌+◌, ◌≤◌}
-use mathlib.Core.List.{[]}
-use mathlib.Core.Path.{◌≡◌, refl, sym, ◌∙◌}
-use lib.ListN.{length}
+use mathlib.Core.Path.{refl, sym, ◌∙◌}
 use native.Mathlib.Nat.{pos_of_ne-zero}
 use native.Mathlib.Omega.{arith}
-use Rattle.views.specs.Versions.{version_of}
-use Rattle.names.specs.Searching.{chain}
-use Rattle.names.specs.Walks.{counted}
 use Rattle.names.proofs.ChainLaws.{counted_start, counted_last, counted_next, counted_none, max_small}
-use Rattle.entries.specs.Known.{Knows}
 use Rattle.ivfc.proofs.ViewLaws.{size4_small}
 use Rattle.walks.proofs.searching.search_chain.Goals as goal
 
@@ -21,17 +14,8 @@ loop-steps-init c = (refl, omega arith, c.requires.0.knows, counted_start _ _ _ 
 pub follow-link-requires : goal.follow-link-requires
 follow-link-requires c = (record { rules = c.requires.0.rules; knows = c.loop-steps.invariant.2 }, c.requires.1)
 
-pub enum_known-link : goal.enum_known-link
-enum_known-link c = c.in-Last.keys1
-
-pub shape_of-known-in-Last : goal.shape_of-known-in-Last
-shape_of-known-in-Last c = c.follow-link.auto.1.1.1.0 ∙ c.loop-steps.invariant.0
-
 pub returns-in-Last : goal.returns-in-Last
-returns-in-Last c = sym (c.loop-steps.invariant.3 ∙ counted_last _ _ _ _ _ _ _ _ c.loop-steps-test.true (sym c.follow-link.ensures.0 ∙ c.link-1.given.1))
-
-pub enum_known-link-in-Next-1 : goal.enum_known-link-in-Next-1
-enum_known-link-in-Next-1 c = c.in-Next.keys2
+returns-in-Last c = sym (c.loop-steps.invariant.3 ∙ counted_last _ _ _ _ _ _ _ _ c.loop-steps-test.true (sym c.follow-link.ensures.0 ∙ c.in-Last.is))
 
 pub overflow_sub-steps : goal.overflow_sub-steps
 overflow_sub-steps c = pos_of_ne-zero c.loop-steps-test.true
@@ -41,14 +25,11 @@ loop-steps-smaller c = omega (arith, pos_of_ne-zero c.loop-steps-test.true)
 
 pub loop-steps-preserved : goal.loop-steps-preserved
 loop-steps-preserved c = (
-  c.follow-link.auto.1.1.1.0 ∙ c.loop-steps.invariant.0,
+  c.follow-link.auto.known ∙ c.loop-steps.invariant.0,
   omega (arith, c.loop-steps.invariant.1),
   c.follow-link.ensures.1,
-  c.loop-steps.invariant.3 ∙ counted_next _ _ _ _ _ _ _ _ c.loop-steps-test.true (sym c.follow-link.ensures.0 ∙ c.link-in-Next-1.given.1),
+  c.loop-steps.invariant.3 ∙ counted_next _ _ _ _ _ _ _ _ c.loop-steps-test.true (sym c.follow-link.ensures.0 ∙ c.in-Next.is),
 )
-
-pub shape_of-known : goal.shape_of-known
-shape_of-known c = c.loop-steps.invariant.0
 
 pub returns : goal.returns
 returns c = sym (c.loop-steps.invariant.3 ∙ counted_none _ _ _ _ _ _ _ c.loop-steps-test.false)

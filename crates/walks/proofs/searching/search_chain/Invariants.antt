@@ -1,16 +1,12 @@
 -- `walks::searching::search_chain` meets its contract. Assumes nothing.
 use Prim.Native.Nat.{◌+◌, ◌≤◌}
 use mathlib.Core.List.{[]}
-use mathlib.Core.Path.{◌≡◌, refl, sym, ◌∙◌}
+use mathlib.Core.Path.{◌≡◌}
 use lib.ListN.{length}
-use native.Mathlib.Nat.{pos_of_ne-zero}
-use native.Mathlib.Omega.{arith}
 use Rattle.views.specs.Versions.{version_of}
 use Rattle.names.specs.Searching.{chain}
 use Rattle.names.specs.Walks.{counted}
-use Rattle.names.proofs.ChainLaws.{counted_start, counted_last, counted_next, counted_none, max_small}
 use Rattle.entries.specs.Known.{Knows}
-use Rattle.ivfc.proofs.ViewLaws.{size4_small}
 use Rattle.walks.proofs.searching.search_chain.Given as goal
 
 abbrev pub invariant-loop-steps : goal.invariant-loop-steps
