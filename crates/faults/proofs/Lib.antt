@@ -9,5 +9,3 @@ pub mod MarkedLaws
 pub mod LawsHold
 mod TurnLaws
 mod RowLaws
-mod Lent
-pub mod Handed

@@ -1,7 +1,6 @@
 -- `end_under` meets its contract. Assumes nothing.
 use native.Mathlib.Omega.{arith}
 use Rattle.faults.proofs.UnderLaws.{under_master, upper_logs, upper_between, found_between, under_marked}
-use borrow.Author.Rules.{rules}
 use Rattle.faults.proofs.judging.end_under.Goals as goal
 
 pub returns-then-i-eq1 : goal.returns-then-i-eq1

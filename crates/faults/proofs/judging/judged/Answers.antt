@@ -5,15 +5,14 @@ use lib.ListN.{length-replicate}
 use Prim.Native.Nat.{ℕ}
 use Rattle.number.proofs.MarkLaws.{zeros_unmarked}
 use Rattle.faults.proofs.MarkedLaws.{marked_valid, marked_refused}
-use borrow.Author.Rules.{rules}
 use Rattle.faults.proofs.judging.judged.Goals as goal
 
 pub mark_all-requires : goal.mark_all-requires
 mark_all-requires c =
-    (sym c.requires ∙ c.answer-1.given.1, λ y h. zeros_unmarked 0x20010 y, omega (arith, length-replicate {A = ℕ} 0x20010 0))
+    (sym c.requires ∙ c.in-Valid.is, λ y h. zeros_unmarked 0x20010 y, omega (arith, length-replicate {A = ℕ} 0x20010 0))
 
 pub returns-in-Valid : goal.returns-in-Valid
-returns-in-Valid c = marked_valid _ _ _ _ c.answer-1.given.1 c.mark_all.ensures
+returns-in-Valid c = marked_valid _ _ _ _ c.in-Valid.is c.mark_all.ensures
 
 pub returns-in_default : goal.returns-in_default
-returns-in_default c = marked_refused _ _ _ _ c.enum_told-1.given.1
+returns-in_default c = marked_refused _ _ _ _ c.in_default.is

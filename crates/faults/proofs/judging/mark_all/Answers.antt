@@ -1,15 +1,12 @@
-use Prim.Native.Nat.{◌-◌, ◌≤◌}
-use mathlib.Core.Path.{◌≡◌, refl, sym, ap, ◌∙◌}
+use mathlib.Core.Path.{refl, sym, ap, ◌∙◌}
 use native.Mathlib.Omega.{arith}
-use lib.ListN.{length}
 use borrow.Author.Tests.{lt-ltb}
 use Rattle.ivfc.specs.declared.View.{View}
 use Rattle.views.specs.Places.{partitions}
 use Rattle.steps.proofs.CallLaws.{committed_keeps}
-use Rattle.faults.specs.Marking.{blocks_before, partitions_before, Marked}
+use Rattle.faults.specs.Marking.{blocks_before}
 use Rattle.faults.proofs.NumberLaws.{partitions_none, partitions_step, partitions_mono, marked_none, marked_step, marked_all}
 use Rattle.faults.proofs.RoomLaws.{searchable}
-use borrow.Author.Rules.{rules}
 use Rattle.faults.proofs.judging.mark_all.Goals as goal
 
 pub loop-q-init : goal.loop-q-init
@@ -39,7 +36,7 @@ loop-q-preserved c =
     let e = c.view_of-view.ensures in
     let r = c.mark_view-number in (
       omega (arith, c.loop-q-test.true),
-      r.auto.1.1.1.0 ∙ l.invariant.1,
+      r.auto.marks ∙ l.invariant.1,
       omega (arith, r.ensures.0, l.invariant.2, ap (λ (v : View). blocks_before v 5) e, partitions_step a.c l.q),
       marked_step a.c a.image.now l.q _ _ l.invariant.3 (rw (← e, ← l.invariant.2) r.ensures.1),
     )

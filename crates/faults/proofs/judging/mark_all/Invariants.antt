@@ -1,16 +1,9 @@
 -- `mark_all` meets its contract. The loop's invariant: the partitions before q are judged. The measure is how many are left. Assumes nothing.
 use Prim.Native.Nat.{◌-◌, ◌≤◌}
-use mathlib.Core.Path.{◌≡◌, refl, sym, ap, ◌∙◌}
-use native.Mathlib.Omega.{arith}
+use mathlib.Core.Path.{◌≡◌}
 use lib.ListN.{length}
-use borrow.Author.Tests.{lt-ltb}
-use Rattle.ivfc.specs.declared.View.{View}
 use Rattle.views.specs.Places.{partitions}
-use Rattle.steps.proofs.CallLaws.{committed_keeps}
-use Rattle.faults.specs.Marking.{blocks_before, partitions_before, Marked}
-use Rattle.faults.proofs.NumberLaws.{partitions_none, partitions_step, partitions_mono, marked_none, marked_step, marked_all}
-use Rattle.faults.proofs.RoomLaws.{searchable}
-use borrow.Author.Rules.{rules}
+use Rattle.faults.specs.Marking.{partitions_before, Marked}
 use Rattle.faults.proofs.judging.mark_all.Given as goal
 
 abbrev pub invariant-loop-q : goal.invariant-loop-q

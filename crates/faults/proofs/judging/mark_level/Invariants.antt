@@ -1,15 +1,10 @@
 -- `mark_level` meets its contract. The loop's invariant: the first b blocks have a mark as they are verified. The measure is how many are left.
 -- Assumes nothing.
 use Prim.Native.Nat.{◌-◌, ◌≤◌}
-use mathlib.Core.Path.{◌≡◌, refl, ap, ◌∙◌}
-use native.Mathlib.Omega.{arith}
+use mathlib.Core.Path.{◌≡◌}
 use lib.ListN.{length}
-use Rattle.number.specs.Blocks.{blocks}
-use Rattle.ivfc.specs.Views.{level_of, verified}
+use Rattle.ivfc.specs.Views.{verified}
 use Rattle.faults.specs.Marking.{Sets}
-use Rattle.faults.proofs.SetLaws.{sets_none, sets_same, sets_free}
-use Rattle.faults.proofs.UnderLaws.{level_step, step_small}
-use borrow.Author.Rules.{rules}
 use Rattle.faults.proofs.judging.mark_level.Given as goal
 
 abbrev pub invariant-loop-b : goal.invariant-loop-b

@@ -1,9 +1,7 @@
-use Prim.Native.Nat.{ℕ, ◌+◌, ◌-◌, ◌≤◌}
-use mathlib.Core.Path.{◌≡◌, refl, ap, ◌∙◌}
+use Prim.Native.Nat.{ℕ, ◌+◌, ◌-◌}
+use mathlib.Core.Path.{refl, ap, ◌∙◌}
 use native.Mathlib.Omega.{arith}
-use lib.ListN.{length}
 use Rattle.ivfc.specs.Views.{matches}
-use Rattle.faults.specs.Marking.{Sets}
 use Rattle.faults.proofs.SetLaws.{sets_none, sets_join, sets_same, sets_free}
 use Rattle.faults.proofs.judging.mark_matching.Goals as goal
 

@@ -1,12 +1,10 @@
 -- `mark_matching` meets its contract. The loop's invariant: the blocks from `first` up to b are marked as they match. The measure is how many are left.
 -- Assumes nothing.
 use Prim.Native.Nat.{ℕ, ◌+◌, ◌-◌, ◌≤◌}
-use mathlib.Core.Path.{◌≡◌, refl, ap, ◌∙◌}
-use native.Mathlib.Omega.{arith}
+use mathlib.Core.Path.{◌≡◌}
 use lib.ListN.{length}
 use Rattle.ivfc.specs.Views.{matches}
 use Rattle.faults.specs.Marking.{Sets}
-use Rattle.faults.proofs.SetLaws.{sets_none, sets_join, sets_same, sets_free}
 use Rattle.faults.proofs.judging.mark_matching.Given as goal
 
 abbrev pub invariant-loop-b : goal.invariant-loop-b

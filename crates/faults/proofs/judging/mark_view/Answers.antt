@@ -1,11 +1,9 @@
-use Prim.Native.Nat.{ℕ, ◌+◌, ◌-◌, ◌≤◌}
+use Prim.Native.Nat.{ℕ, ◌+◌, ◌-◌}
 use mathlib.Core.Path.{◌≡◌, refl, ap, ◌∙◌}
 use native.Mathlib.Omega.{arith}
-use lib.ListN.{length}
 use Rattle.number.specs.Blocks.{blocks}
-use Rattle.faults.specs.Marking.{blocks_before, Judges}
+use Rattle.faults.specs.Marking.{blocks_before}
 use Rattle.faults.proofs.NumberLaws.{before_step, before_mono, ordered, judges_none, judges_step, judges_awaits}
-use borrow.Author.Rules.{rules}
 use Rattle.faults.proofs.judging.mark_view.Goals as goal
 
 pub loop-i-init : goal.loop-i-init
@@ -56,7 +54,7 @@ loop-i-preserved c =
     let e : l.i + 1 - 1 ≡ l.i = omega arith in (
       omega arith,
       omega (arith, c.loop-i-test.true),
-      c.mark_level.auto.1.1.1.1.1.0 ∙ j.2,
+      c.mark_level.auto.marks ∙ j.2,
       omega (arith, j.4, ap (blocks_before a.view) e),
       next_at c,
       judges_step a.view a.image.now _ a.start l.i l.at _ _ j.0 j.5 j.4 c.mark_level.ensures,

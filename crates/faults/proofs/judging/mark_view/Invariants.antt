@@ -1,12 +1,8 @@
 -- `mark_view` meets its contract. The loop's invariant: the levels before i are judged. The measure is how many are left. Assumes nothing.
-use Prim.Native.Nat.{ℕ, ◌+◌, ◌-◌, ◌≤◌}
-use mathlib.Core.Path.{◌≡◌, refl, ap, ◌∙◌}
-use native.Mathlib.Omega.{arith}
+use Prim.Native.Nat.{◌+◌, ◌-◌, ◌≤◌}
+use mathlib.Core.Path.{◌≡◌}
 use lib.ListN.{length}
-use Rattle.number.specs.Blocks.{blocks}
 use Rattle.faults.specs.Marking.{blocks_before, Judges}
-use Rattle.faults.proofs.NumberLaws.{before_step, before_mono, ordered, judges_none, judges_step, judges_awaits}
-use borrow.Author.Rules.{rules}
 use Rattle.faults.proofs.judging.mark_view.Given as goal
 
 abbrev pub invariant-loop-i : goal.invariant-loop-i

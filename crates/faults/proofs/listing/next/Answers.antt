@@ -1,6 +1,5 @@
 -- `next` meets its contract. Assumes nothing.
 use Rattle.faults.proofs.TurnLaws.{reaches_next}
-use borrow.Author.Rules.{rules}
 use Rattle.faults.proofs.listing.next.Goals as goal
 
 pub turn_from-requires : goal.turn_from-requires

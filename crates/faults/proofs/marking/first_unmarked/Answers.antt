@@ -1,9 +1,6 @@
-use Prim.Native.Nat.{◌-◌, ◌≤◌}
-use mathlib.Core.Path.{◌≡◌, refl, sym, ◌∙◌}
+use mathlib.Core.Path.{refl, sym, ◌∙◌}
 use native.Mathlib.Omega.{arith}
-use borrow.Author.Tests.{not-true, not-false}
 use Rattle.number.specs.Marks.{marked}
-use Rattle.ivfc.specs.Verified.{first_not}
 use Rattle.ivfc.proofs.RowLaws.{first_none}
 use Rattle.faults.proofs.UnderLaws.{first_passed, first_stops}
 use Rattle.faults.proofs.marking.first_unmarked.Goals as goal
@@ -17,7 +14,7 @@ is_marked-requires c = tt
 pub returns-then-not-is_marked : goal.returns-then-not-is_marked
 returns-then-not-is_marked c =
     let l = c.loop-x in
-    sym (l.invariant.2 ∙ first_stops (marked c.args.marks.now) l.x c.args.end c.loop-x-test.true (sym c.is_marked.ensures ∙ not-true _ c.if-not-is_marked.true))
+    sym (l.invariant.2 ∙ first_stops (marked c.args.marks.now) l.x c.args.end c.loop-x-test.true (sym c.is_marked.ensures ∙ c.if-not-is_marked.true))
 
 pub overflow_add-x : goal.overflow_add-x
 overflow_add-x c = omega (arith, c.loop-x-test.true)
@@ -30,7 +27,7 @@ loop-x-preserved c =
     let l = c.loop-x in (
       omega (arith, l.invariant.0),
       omega (arith, c.loop-x-test.true),
-      l.invariant.2 ∙ first_passed (marked c.args.marks.now) l.x c.args.end c.loop-x-test.true (sym c.is_marked.ensures ∙ not-false _ c.if-not-is_marked.false),
+      l.invariant.2 ∙ first_passed (marked c.args.marks.now) l.x c.args.end c.loop-x-test.true (sym c.is_marked.ensures ∙ c.if-not-is_marked.false),
     )
 
 pub returns : goal.returns

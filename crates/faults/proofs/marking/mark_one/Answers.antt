@@ -1,7 +1,6 @@
 -- `mark_one` meets its contract. Assumes nothing.
 use native.Mathlib.Omega.{arith}
 use Rattle.faults.proofs.SetLaws.{sets_true, sets_false}
-use borrow.Author.Rules.{rules}
 use Rattle.faults.proofs.marking.mark_one.Goals as goal
 
 pub set_mark-requires : goal.set_mark-requires

@@ -1,9 +1,5 @@
-use Prim.Native.Nat.{ℕ, ◌-◌, ◌≤◌}
-use mathlib.Core.Path.{◌≡◌, refl, ◌∙◌}
-use mathlib.Core.Bool.{false}
+use mathlib.Core.Path.{refl, ◌∙◌}
 use native.Mathlib.Omega.{arith}
-use lib.ListN.{length, get_or}
-use Rattle.faults.specs.Marking.{Sets}
 use Rattle.faults.proofs.SetLaws.{sets_none, sets_more, sets_same, sets_free}
 use Rattle.faults.proofs.marking.mark_row.Goals as goal
 

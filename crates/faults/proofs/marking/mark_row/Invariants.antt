@@ -1,12 +1,10 @@
 -- `mark_row` meets its contract. The loop's invariant: the first j are marked as they are told, and the others are as they were. The measure is how many
 -- are left. Assumes nothing.
 use Prim.Native.Nat.{ℕ, ◌-◌, ◌≤◌}
-use mathlib.Core.Path.{◌≡◌, refl, ◌∙◌}
+use mathlib.Core.Path.{◌≡◌}
 use mathlib.Core.Bool.{false}
-use native.Mathlib.Omega.{arith}
 use lib.ListN.{length, get_or}
 use Rattle.faults.specs.Marking.{Sets}
-use Rattle.faults.proofs.SetLaws.{sets_none, sets_more, sets_same, sets_free}
 use Rattle.faults.proofs.marking.mark_row.Given as goal
 
 abbrev pub invariant-loop-j : goal.invariant-loop-j

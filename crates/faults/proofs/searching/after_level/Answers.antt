@@ -1,6 +1,5 @@
 -- `after_level` meets its contract. Assumes nothing.
 use Rattle.faults.proofs.SearchLaws.{after_yes, after_no}
-use borrow.Author.Rules.{rules}
 use Rattle.faults.proofs.searching.after_level.Goals as goal
 
 pub returns-then-place-lt-LAST : goal.returns-then-place-lt-LAST

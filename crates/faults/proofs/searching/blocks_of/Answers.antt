@@ -3,7 +3,6 @@ use mathlib.Core.Path.{ap, ◌∙◌}
 use Rattle.number.specs.Blocks.{blocks}
 use Rattle.ivfc.specs.declared.View.{View}
 use Rattle.ivfc.specs.Views.{level_of}
-use borrow.Author.Rules.{rules}
 use Rattle.faults.proofs.searching.blocks_of.Goals as goal
 
 pub level_of-requires : goal.level_of-requires

@@ -1,9 +1,5 @@
-use Prim.Native.Nat.{◌+◌, ◌-◌}
-use mathlib.Core.Path.{◌≡◌}
-use mathlib.Core.Bool.{false}
 use native.Mathlib.Omega.{arith}
-use Rattle.faults.specs.Searching.{Placed}
-use Rattle.faults.proofs.SearchLaws.{total, finds_total, total_yes, total_no}
+use Rattle.faults.proofs.SearchLaws.{finds_total, total_yes, total_no}
 use Rattle.faults.proofs.searching.count_from.Goals as goal
 
 pub find-found-requires : goal.find-found-requires

@@ -2,9 +2,8 @@
 use Prim.Native.Nat.{◌+◌, ◌-◌}
 use mathlib.Core.Path.{◌≡◌}
 use mathlib.Core.Bool.{false}
-use native.Mathlib.Omega.{arith}
 use Rattle.faults.specs.Searching.{Placed}
-use Rattle.faults.proofs.SearchLaws.{total, finds_total, total_yes, total_no}
+use Rattle.faults.proofs.SearchLaws.{total}
 use Rattle.faults.proofs.searching.count_from.Given as goal
 
 abbrev pub invariant-loop-found : goal.invariant-loop-found

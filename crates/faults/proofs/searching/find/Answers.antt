@@ -1,10 +1,6 @@
-use Prim.Native.Nat.{suc, ◌-◌, ◌*◌}
-use mathlib.Core.Path.{◌≡◌, refl, ◌∙◌}
+use mathlib.Core.Path.{refl, ◌∙◌}
 use native.Mathlib.Omega.{arith}
-use Rattle.views.specs.Places.{partitions}
-use Rattle.faults.specs.Searching.{left_in, Placed, rank}
 use Rattle.faults.proofs.SearchLaws.{finds_hit, finds_none}
-use borrow.Author.Rules.{rules}
 use Rattle.faults.proofs.searching.find.Goals as goal
 
 pub loop-at-init : goal.loop-at-init

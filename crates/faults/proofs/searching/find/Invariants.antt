@@ -1,11 +1,8 @@
 -- `find` meets its contract: what is left from the place on is left from `at` on, which goes on level by level. Assumes nothing.
 use Prim.Native.Nat.{suc, ◌-◌, ◌*◌}
-use mathlib.Core.Path.{◌≡◌, refl, ◌∙◌}
-use native.Mathlib.Omega.{arith}
+use mathlib.Core.Path.{◌≡◌}
 use Rattle.views.specs.Places.{partitions}
 use Rattle.faults.specs.Searching.{left_in, Placed, rank}
-use Rattle.faults.proofs.SearchLaws.{finds_hit, finds_none}
-use borrow.Author.Rules.{rules}
 use Rattle.faults.proofs.searching.find.Given as goal
 
 abbrev pub invariant-loop-at : goal.invariant-loop-at
