@@ -32,7 +32,7 @@ fewest x unit k h e =
     let q : (x + (unit - 1)) / unit < suc k = (div-lt_iff_lt-mul {x = x + (unit - 1)} {y = suc k} h).1 (rw (suc-mul k unit) (omega arith)) in
     omega arith
 
--- so `next` is the next multiple at or after x, and `bitsFor` the least multiple with enough bits
+-- so `next` is the next multiple at or after x, and `bits_for` the least multiple with enough bits
 pub next_reaches : (x unit : ℕ) → 0 < unit → x ≤ next x unit
 unfolding next
 next_reaches x unit h = (rounded x unit h).enough

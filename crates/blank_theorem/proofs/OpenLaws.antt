@@ -36,7 +36,7 @@ use Rattle.layout.proofs.GuaranteeLaws.{TableChecks, partition_passes}
 use Rattle.layout.proofs.GuaranteeLaws as layout
 use Rattle.blank.specs.Sizes.{h1, h2, h3, ivfc1, ivfc2, ivfc3, ivfc4, dpfs2, dpfs3, place4, size1, size2, size3, place2, place3, partition_place, partition_size, image_size}
 use Rattle.blank.specs.Fields.{level_fields}
-use Rattle.blank.specs.Image.{zeros, master, difi, ivfc, dpfs, pieces, table, disa_fields, diff_fields, header, secondary_place, primary_place, table_size, image}
+use Rattle.blank.specs.Image.{zeros, difi, ivfc, dpfs, pieces, table, disa_fields, diff_fields, header, secondary_place, primary_place, table_size, image}
 use Rattle.blank_theorem.specs.Theorem.{header_of, partition, container}
 use Rattle.blank.proofs.SizeLaws.{Sized}
 use Rattle.blank_theorem.proofs.FieldLaws.{eight_read}

@@ -8,7 +8,7 @@ use Rattle.blank.specs.Making.{zero_digest, made}
 use Rattle.blank_theorem.specs.Theorem.{Blank}
 use Rattle.blank_theorem.specs.Sessions.{Takes}
 
--- `next` is the next multiple at or after x, and `bitsFor` the least one with enough bits
+-- `next` is the next multiple at or after x, and `bits_for` the least one with enough bits
 pub record Rounding : Type 0 where
   pub reaches : (x unit : ℕ) → 0 < unit → x ≤ next x unit
   pub nearest : (x unit k : ℕ) → 0 < unit → x ≤ unit * k → next x unit ≤ unit * k

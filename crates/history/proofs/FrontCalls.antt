@@ -46,7 +46,7 @@ use Rattle.steps.specs.Sessions.{idle, begun_with, remembering, ends_outcome, wr
 use Rattle.steps.specs.Calls.{while_idle, entered, while_revertible, entered_back, After, unchanged, done, goes_on, begin_on, begin, finished, leaving, write_to, write_on, write, landed, commit_on, commit, commit_by, commit_signed, revert_on, revert, revert_by, revert_signed}
 use Rattle.steps.proofs.EnterLaws.{idle_is, entered_is}
 use Rattle.faults.specs.Faults.{row_after}
-use Rattle.history.specs.Model.{Form, Plain, Signed, Query, Open, ReadCommitted, ReadStaged, IsVerified, CountVerified, ListFaults, SigningBlock, SigningDigest, ListNames, FindFile, Call, Ask, Begin, Write, Commit, Abandon, Answer, Opening, Reading, Judging, Counting, Listing, Building, Digesting, Naming, Finding, Stepping, Ruling, Accepted, Refused, Dropped, Did, ending_of, ruling}
+use Rattle.history.specs.Model.{Form, Plain, Signed, Query, Open, ReadCommitted, ReadStaged, IsVerified, CountVerified, ListFaults, SigningBlock, SigningDigest, ListNames, FindFile, Call, Ask, Begin, Write, Commit, Abandon, Opening, Reading, Judging, Counting, Listing, Building, Digesting, Naming, Finding, Stepping, Ruling, Accepted, Refused, Dropped, Did, ending_of, ruling}
 use Rattle.history.specs.Run.{State, Performed, opened_as, committed_as, reply, stepped, perform, ruled, next}
 use Rattle.history.specs.External.{InPlaceBy}
 use Rattle.history.specs.Term.{reverted_as, reverted, ruled_revert, next_revert}

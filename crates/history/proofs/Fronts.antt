@@ -32,7 +32,7 @@ use Rattle.dpfs.specs.Bits.{bit_of}
 use Rattle.dpfs.specs.Tree.{place, level_byte, select1, select2, select3, content}
 use Rattle.dpfs.specs.Free.{InRange}
 use Rattle.ivfc.specs.declared.View.{View}
-use Rattle.ivfc.specs.Views.{level_of, inner_byte, content_of, verified}
+use Rattle.ivfc.specs.Views.{level_of, inner_byte, content_of}
 use Rattle.ivfc.specs.Verified as tree
 use Rattle.views.specs.Places.{partitions, slot_of, partition_of, tree_in, master_in, tree_of, view_in, committed_view, staged_view}
 use Rattle.views.specs.Versions.{Version, version_of}

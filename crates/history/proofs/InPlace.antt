@@ -12,7 +12,6 @@ use borrow.Author.Tests.{ltb-true}
 use Rattle.number.specs.declared.Level.{Level}
 use Rattle.number.specs.Ranges.{Apart}
 use Rattle.number.specs.Blocks.{blocks, block_of, touches}
-use Rattle.number.specs.Bytes.{bytes}
 use Rattle.number.proofs.ListLaws.{length_bytes, get_d_bytes}
 use Rattle.number.proofs.BlockLaws.{touches_byte}
 use Rattle.layout.specs.declared.Container.{Container}

@@ -18,7 +18,6 @@ use Rattle.number.specs.Bytes.{bytes}
 use Rattle.number.proofs.BlockLaws.{block_exists, touches_byte}
 use Rattle.layout.specs.declared.Container.{Container}
 use Rattle.ivfc.specs.declared.View.{View}
-use Rattle.ivfc.specs.Views.{verified}
 use Rattle.views.specs.Places.{view_in, committed_view, staged_view}
 use Rattle.layout.specs.declared.Outcome.TheVariants as outcome
 use Rattle.steps.specs.Calls.{read_committed}

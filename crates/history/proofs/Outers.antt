@@ -13,7 +13,6 @@ use Rattle.number.specs.declared.Range.{Range}
 use Rattle.number.specs.declared.Level.{Level}
 use Rattle.number.specs.Ranges.{Apart, level_range, twice}
 use Rattle.number.specs.Blocks.{blocks, block_of, block_size, block_length}
-use Rattle.number.specs.Bytes.{bytes}
 use Rattle.number.proofs.FrameLaws.{keeps_more}
 use Rattle.number.proofs.BlockLaws.{block_inside, exists_byte, block_byte}
 use Rattle.layout.specs.declared.Container.{Container}

@@ -19,7 +19,7 @@ use Rattle.steps.specs.Sessions.{current}
 use Rattle.steps.specs.Calls.{while_idle, entered, goes_on, After, begin_on, begin, commit_on, commit, commit_by, commit_signed, abandon}
 use Rattle.steps.proofs.SessionLaws.{no_of}
 use Rattle.steps.proofs.EnterLaws.{enters}
-use Rattle.history.specs.Model.{Plain, Signed, Begin, Commit, Abandon, Answer, Stepping, Accepted, ending_of, Model}
+use Rattle.history.specs.Model.{Plain, Signed, Begin, Commit, Abandon, Stepping, Accepted, ending_of, Model}
 use Rattle.views.specs.Versions.{Version}
 use Rattle.history.specs.Run.{State, perform, ruled}
 use Rattle.history.specs.External.{StartThere, committed_of, level_of_there, is_external, Loose, tight}

@@ -32,11 +32,11 @@ use Rattle.signatures.proofs.Laws.{length_signature, signed_by}
 use Rattle.layout.specs.declared.Outcome.TheVariants as outcome
 use Rattle.commits.specs.Committing.{stored_header, stored_signed, header_committed}
 use Rattle.steps.specs.declared.Session.{Session}
-use Rattle.steps.specs.Sessions.{nothing, idle, remembering, current, table_staged, is_valid, revertible}
+use Rattle.steps.specs.Sessions.{nothing, idle, remembering, table_staged, is_valid, revertible}
 use Rattle.steps.specs.Calls.{while_idle, while_revertible, entered_back, After, unchanged, done, goes_on, landed, revert_on, revert_by, revert, revert_signed}
 use Rattle.steps.proofs.EnterLaws.{back_unopened, back_none, back_enters, back_is}
 use Rattle.history.specs.Model.{Form, Plain, Signed, Call, Commit, Stepping, Ruling, Accepted, Refused, Dropped, ending_of}
-use Rattle.history.specs.Run.{State, opened_as, perform, ruled, next, after, events, begins}
+use Rattle.history.specs.Run.{State, opened_as, perform, ruled, next, events, begins}
 use Rattle.history.specs.Theorem.{InUnit, ended_by}
 use Rattle.history.specs.Term.{reverted_as, reverted, ruled_revert, next_revert, fits, refused21, stamped, given_back, after_commit, SameAnswers, StepsBack, RevertTheorem}
 use Rattle.history.proofs.CallCases.{not_both, not_dropped, not_taken, left, Kept, kept_on, kept_done, Lasts, lasts_on, went_on, landed_image, idle_after, committed_by, opens_first}

@@ -8,7 +8,7 @@ use Rattle.layout.specs.declared.Container.{Container}
 use Rattle.layout.specs.declared.Opened.TheVariants as opening
 use Rattle.layout.specs.Opening.{opened}
 use Rattle.dpfs.specs.Free.{InRange}
-use Rattle.ivfc.specs.Views.{level_of, content_of, verified}
+use Rattle.ivfc.specs.Views.{level_of, content_of}
 use Rattle.views.specs.Places.{partitions, slot_of, partition_of, external_in, committed_view, staged_view}
 use Rattle.views.specs.Protected.{ExternalByte, AgreesBut}
 use Rattle.signing.specs.declared.Signer.{Signer}

@@ -13,7 +13,7 @@ abbrev pub listed_says : Listed → Said
 listed_says (names.Names n) = accepts n
 listed_says (names.Refused r) = refuses r
 
--- the file's entry number, which is never 0, since 0 ends a chain (names' linkAt); 0 for none
+-- the file's entry number, which is never 0, since 0 ends a chain (names' link_at); 0 for none
 abbrev pub sought_says : Sought → Said
 sought_says (sought.File f) = accepts f
 sought_says sought.Nothing = accepts 0

@@ -1,7 +1,6 @@
 -- `put_fields`: the numbers right behind the opening bytes. Assumes nothing.
 use mathlib.Core.Path.{refl}
 use Rattle.blank.proofs.FillLaws.{behind}
-use borrow.Author.Rules.{rules}
 use Rattle.blank.proofs.fields.put_fields.Goals as goal
 
 pub returns : goal.returns

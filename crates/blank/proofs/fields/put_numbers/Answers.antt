@@ -1,9 +1,7 @@
-use Prim.Native.Nat.{◌≤◌, ◌-◌, ◌+◌, ◌*◌}
-use mathlib.Core.Path.{◌≡◌, refl, sym, ap, ◌∙◌}
+use mathlib.Core.Path.{refl, sym, ap, ◌∙◌}
 use native.Mathlib.Omega.{arith}
-use lib.ListN.{length, drop}
-use lib.Seq.{sets, length-sets}
-use Rattle.blank.specs.Fields.{eights}
+use lib.ListN.{length}
+use lib.Seq.{length-sets}
 use Rattle.blank.proofs.StoreLaws.{numbers_start, numbers_step, numbers_end}
 use Rattle.blank.proofs.fields.put_numbers.Goals as goal
 

@@ -1,11 +1,9 @@
 -- `put_numbers`: the invariant: what is stored, with the numbers that are left, is all of them. Assumes nothing.
 use Prim.Native.Nat.{◌≤◌, ◌-◌, ◌+◌, ◌*◌}
-use mathlib.Core.Path.{◌≡◌, refl, sym, ap, ◌∙◌}
-use native.Mathlib.Omega.{arith}
+use mathlib.Core.Path.{◌≡◌}
 use lib.ListN.{length, drop}
-use lib.Seq.{sets, length-sets}
+use lib.Seq.{sets}
 use Rattle.blank.specs.Fields.{eights}
-use Rattle.blank.proofs.StoreLaws.{numbers_start, numbers_step, numbers_end}
 use Rattle.blank.proofs.fields.put_numbers.Given as goal
 
 abbrev pub invariant-loop-k : goal.invariant-loop-k

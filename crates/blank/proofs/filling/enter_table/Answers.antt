@@ -2,7 +2,6 @@
 use native.Mathlib.Omega.{arith}
 use Rattle.blank.proofs.SizeLaws.{sized}
 use Rattle.blank.proofs.MakeLaws.{length_s, room0, room_t, image_made, below_made}
-use borrow.Author.Rules.{rules}
 use Rattle.blank.proofs.filling.enter_table.Goals as goal
 
 pub digest_at-master-requires : goal.digest_at-master-requires

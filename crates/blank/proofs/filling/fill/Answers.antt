@@ -3,7 +3,6 @@ use mathlib.Core.Bool.{Bool, ◌||◌}
 use mathlib.Core.Path.{ap₂}
 use Rattle.blank.specs.Making.{zero_digest}
 use Rattle.blank.proofs.FillLaws.{half_made}
-use borrow.Author.Rules.{rules}
 use Rattle.blank.proofs.filling.fill.Goals as goal
 
 pub enter_hashes-hashes-requires : goal.enter_hashes-hashes-requires

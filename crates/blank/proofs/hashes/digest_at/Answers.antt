@@ -2,7 +2,6 @@
 use native.Mathlib.Omega.{arith}
 use Rattle.blank.proofs.HashLaws.{placed, start_small, piece_length, block_digest}
 use mathlib.Core.Path.{refl}
-use borrow.Author.Rules.{rules}
 use Rattle.blank.proofs.hashes.digest_at.Goals as goal
 
 pub overflow_mul-start : goal.overflow_mul-start

@@ -1,7 +1,6 @@
 -- `digest_next`: an equal block has an equal digest. Assumes nothing.
 use mathlib.Core.Path.{sym, ap, ◌∙◌}
 use Rattle.sha256.specs.Sha256.{sha256}
-use borrow.Author.Rules.{rules}
 use Rattle.blank.proofs.hashes.digest_next.Goals as goal
 
 pub returns-then-repeats : goal.returns-then-repeats

@@ -1,6 +1,5 @@
 -- `digest_padded`: a block of zeros, stored over, is the bytes and the padding. Assumes nothing.
 use Rattle.blank.proofs.HashLaws.{cut_length, cut_padded}
-use borrow.Author.Rules.{rules}
 use Rattle.blank.proofs.hashes.digest_padded.Goals as goal
 
 pub slice_bounds-digest-end : goal.slice_bounds-digest-end

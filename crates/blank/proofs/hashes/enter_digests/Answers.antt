@@ -1,12 +1,9 @@
-use Prim.Native.Nat.{ℕ, ◌≤◌, ◌<◌, ◌-◌}
+use Prim.Native.Nat.{ℕ, ◌<◌}
 use mathlib.Core.Path.{◌≡◌, refl, ap, ◌∙◌}
 use native.Mathlib.Omega.{arith}
-use borrow.Author.Rules.{rules}
 use lib.ListN.{length}
 use lib.Seq.{sets, length-sets}
 use Rattle.number.specs.Blocks.{blocks}
-use Rattle.sha256.specs.Sha256.{sha256}
-use Rattle.ivfc.specs.Blocks.{block}
 use Rattle.ivfc.specs.Rows.{digests}
 use Rattle.blank.specs.Rules.{bytes_from}
 use Rattle.blank.specs.Making.{some_zero}

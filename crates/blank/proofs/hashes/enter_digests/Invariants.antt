@@ -1,17 +1,14 @@
 -- `enter_digests`: the invariant: the digests so far are stored and judged, and the last one is at hand. Assumes nothing.
-use Prim.Native.Nat.{ℕ, ◌≤◌, ◌<◌, ◌-◌}
-use mathlib.Core.Path.{◌≡◌, refl, ap, ◌∙◌}
-use native.Mathlib.Omega.{arith}
-use borrow.Author.Rules.{rules}
+use Prim.Native.Nat.{◌≤◌, ◌-◌}
+use mathlib.Core.Path.{◌≡◌}
 use lib.ListN.{length}
-use lib.Seq.{sets, length-sets}
+use lib.Seq.{sets}
 use Rattle.number.specs.Blocks.{blocks}
 use Rattle.sha256.specs.Sha256.{sha256}
 use Rattle.ivfc.specs.Blocks.{block}
 use Rattle.ivfc.specs.Rows.{digests}
 use Rattle.blank.specs.Rules.{bytes_from}
 use Rattle.blank.specs.Making.{some_zero}
-use Rattle.blank.proofs.HashLaws.{entry_fits, own, last_now, next_last, enter_step, zero_step}
 use Rattle.blank.proofs.hashes.enter_digests.Given as goal
 
 abbrev pub invariant-loop-b : goal.invariant-loop-b

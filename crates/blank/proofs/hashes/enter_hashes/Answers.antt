@@ -7,7 +7,6 @@ use Rattle.blank.proofs.SizeLaws.{sized}
 use Rattle.blank.proofs.ImageLaws.{half_at}
 use Rattle.blank.proofs.FillLaws.{room3, room2, room1, enter_made}
 use Rattle.blank.proofs.StoreLaws.{length_zeros_is}
-use borrow.Author.Rules.{rules}
 use Rattle.blank.proofs.hashes.enter_hashes.Goals as goal
 
 pub overflow_add-from3-2 : goal.overflow_add-from3-2
@@ -40,6 +39,7 @@ enter_digests-third-requires c =
 
 pub returns : goal.returns
 returns c =
-    enter_made c.args.n (sized c.args.n c.requires.2 c.requires.3) c.args.half _ _ _ c.requires.1 c.hash1-a.ensures.0 c.hash2-b.ensures.0 c.hash3-c.ensures.0
+    let m = enter_made c.args.n (sized c.args.n c.requires.2 c.requires.3) c.args.half _ _ _ c.requires.1 c.hash1-a.ensures.0 c.hash2-b.ensures.0 c.hash3-c.ensures.0
     c.args.image.now _ _ _ _ _ _ c.requires.0 c.enter_zeros-first.ensures.image_after c.enter_digests-second.ensures.image_after c.enter_digests-third.ensures.image_after
-    c.enter_zeros-first.ensures.value c.enter_digests-second.ensures.value c.enter_digests-third.ensures.value
+    c.enter_zeros-first.ensures.value c.enter_digests-second.ensures.value c.enter_digests-third.ensures.value in
+    record { image_after = m.0; value = m.1 }

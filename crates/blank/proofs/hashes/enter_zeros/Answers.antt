@@ -1,12 +1,8 @@
-use Prim.Native.Nat.{◌≤◌, ◌-◌}
-use mathlib.Core.Path.{◌≡◌, refl, ap, ◌∙◌}
+use mathlib.Core.Path.{refl, ap, ◌∙◌}
 use native.Mathlib.Omega.{arith}
-use borrow.Author.Rules.{rules}
 use lib.ListN.{length}
-use lib.Seq.{sets, length-sets}
+use lib.Seq.{length-sets}
 use Rattle.ivfc.specs.Rows.{digests}
-use Rattle.blank.specs.Sizes.{ivfc4}
-use Rattle.blank.specs.Image.{byte4}
 use Rattle.blank.proofs.SizeLaws.{sized}
 use Rattle.blank.proofs.HashLaws.{entry_fits, copies_step, copies_end, zeros_zero}
 use Rattle.blank.proofs.hashes.enter_zeros.Goals as goal

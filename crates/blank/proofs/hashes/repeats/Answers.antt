@@ -4,7 +4,6 @@ use mathlib.Core.Path.{sym}
 use native.Mathlib.Omega.{arith}
 use Rattle.number.proofs.BlockLaws.{exists_byte}
 use Rattle.blank.proofs.HashLaws.{former, same_block}
-use borrow.Author.Rules.{rules}
 use Rattle.blank.proofs.hashes.repeats.Goals as goal
 
 pub block_length-requires : goal.block_length-requires

@@ -1,6 +1,5 @@
 -- `put_diff`: its fields as one list. Assumes nothing.
 use Rattle.blank.proofs.FillLaws.{diff_made}
-use borrow.Author.Rules.{rules}
 use Rattle.blank.proofs.header.put_diff.Goals as goal
 
 pub returns : goal.returns

@@ -1,6 +1,5 @@
 -- `put_disa`: its fields as one list. Assumes nothing.
 use Rattle.blank.proofs.FillLaws.{disa_made}
-use borrow.Author.Rules.{rules}
 use Rattle.blank.proofs.header.put_disa.Goals as goal
 
 pub returns : goal.returns

@@ -2,7 +2,6 @@
 use mathlib.Core.Path.{sym, ◌∙◌}
 use Rattle.blank.proofs.SizeLaws.{allowed_range}
 use Rattle.blank.proofs.MakeLaws.{length_in, length_out}
-use borrow.Author.Rules.{rules}
 use Rattle.blank.proofs.making.blank_length.Goals as goal
 
 pub image_size-requires : goal.image_size-requires

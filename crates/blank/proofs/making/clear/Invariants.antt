@@ -1,9 +1,7 @@
 -- `clear`: the invariant: the bytes so far are zero. Assumes nothing.
 use Prim.Native.Nat.{ℕ, ◌≤◌, ◌<◌, ◌-◌}
-use mathlib.Core.Path.{◌≡◌, refl, ◌∙◌}
-use native.Mathlib.Omega.{arith}
-use lib.ListN.{length, get_or, length-set}
-use Rattle.blank.proofs.StoreLaws.{zeros_step, zeros_all}
+use mathlib.Core.Path.{◌≡◌}
+use lib.ListN.{length, get_or}
 use Rattle.blank.proofs.making.clear.Given as goal
 
 abbrev pub invariant-loop-i : goal.invariant-loop-i

@@ -1,7 +1,6 @@
 -- `bits_for`: by the rounding of its count. Assumes nothing.
 use native.Mathlib.Omega.{arith}
 use Rattle.blank.specs.Sizes.{bits_for}
-use borrow.Author.Rules.{rules}
 use Rattle.blank.proofs.sizes.bits_for.Goals as goal
 
 pub returns : goal.returns

@@ -1,7 +1,6 @@
 -- `dpfs1_size`: the size, and its bound. Assumes nothing.
 use native.Mathlib.Omega.{arith}
 use Rattle.blank.specs.Sizes.{size1}
-use borrow.Author.Rules.{rules}
 use Rattle.blank.proofs.sizes.dpfs1_size.Goals as goal
 
 pub returns : goal.returns

@@ -1,7 +1,6 @@
 -- `dpfs2_place`: the size, and its bound. Assumes nothing.
 use native.Mathlib.Omega.{arith}
 use Rattle.blank.specs.Sizes.{place2}
-use borrow.Author.Rules.{rules}
 use Rattle.blank.proofs.sizes.dpfs2_place.Goals as goal
 
 pub returns : goal.returns

@@ -1,7 +1,6 @@
 -- `dpfs3_place`: the size, and its bound. Assumes nothing.
 use native.Mathlib.Omega.{arith}
 use Rattle.blank.specs.Sizes.{place3}
-use borrow.Author.Rules.{rules}
 use Rattle.blank.proofs.sizes.dpfs3_place.Goals as goal
 
 pub returns : goal.returns

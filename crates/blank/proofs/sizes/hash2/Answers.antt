@@ -1,7 +1,6 @@
 -- `hash2`: the size, and its bound. Assumes nothing.
 use native.Mathlib.Omega.{arith}
 use Rattle.blank.specs.Sizes.{h2}
-use borrow.Author.Rules.{rules}
 use Rattle.blank.proofs.sizes.hash2.Goals as goal
 
 pub returns : goal.returns

@@ -1,7 +1,6 @@
 -- `hash3`: the size, and its bound. Assumes nothing.
 use native.Mathlib.Omega.{arith}
 use Rattle.blank.specs.Sizes.{h3}
-use borrow.Author.Rules.{rules}
 use Rattle.blank.proofs.sizes.hash3.Goals as goal
 
 pub returns : goal.returns

@@ -1,7 +1,6 @@
 -- `level4_place`: the size, and its bound. Assumes nothing.
 use native.Mathlib.Omega.{arith}
 use Rattle.blank.specs.Sizes.{place4}
-use borrow.Author.Rules.{rules}
 use Rattle.blank.proofs.sizes.level4_place.Goals as goal
 
 pub returns : goal.returns

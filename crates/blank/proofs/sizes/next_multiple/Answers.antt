@@ -1,7 +1,6 @@
 -- `next_multiple`: the size, and its bound. Assumes nothing.
 use native.Mathlib.Omega.{arith}
 use Rattle.blank.specs.Sizes.{next}
-use borrow.Author.Rules.{rules}
 use Rattle.blank.proofs.sizes.next_multiple.Goals as goal
 
 pub returns : goal.returns

@@ -1,7 +1,6 @@
 -- `partition_size`: the size, and its bound. Assumes nothing.
 use native.Mathlib.Omega.{arith}
 use Rattle.blank.specs.Sizes.{partition_size}
-use borrow.Author.Rules.{rules}
 use Rattle.blank.proofs.sizes.partition_size.Goals as goal
 
 pub returns : goal.returns

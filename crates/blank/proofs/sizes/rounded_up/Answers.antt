@@ -1,7 +1,6 @@
 -- `rounded_up`: the quotient, and less than a unit too many. Assumes nothing.
 use Rattle.blank.proofs.SizeLaws.{rounded}
 use Rattle.blank.specs.Sizes.{up}
-use borrow.Author.Rules.{rules}
 use Rattle.blank.proofs.sizes.rounded_up.Goals as goal
 
 pub returns : goal.returns

@@ -1,6 +1,5 @@
 -- `put_difi`: its fields as one list. Assumes nothing.
 use Rattle.blank.proofs.FillLaws.{difi_made}
-use borrow.Author.Rules.{rules}
 use Rattle.blank.proofs.table.put_difi.Goals as goal
 
 pub returns : goal.returns

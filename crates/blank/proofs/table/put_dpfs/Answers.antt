@@ -4,7 +4,6 @@ use mathlib.Core.List.{List}
 use Prim.Native.Nat.{ℕ}
 use lib.Seq.{sets}
 use Rattle.blank.proofs.FillLaws.{dpfs_is}
-use borrow.Author.Rules.{rules}
 use Rattle.blank.proofs.table.put_dpfs.Goals as goal
 
 pub returns : goal.returns

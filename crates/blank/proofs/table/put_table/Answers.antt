@@ -1,6 +1,5 @@
 -- `put_table`: four pieces, each right behind the one before. Assumes nothing.
 use Rattle.blank.proofs.FillLaws.{table_is}
-use borrow.Author.Rules.{rules}
 use Rattle.blank.proofs.table.put_table.Goals as goal
 
 pub returns : goal.returns

@@ -1,6 +1,5 @@
 -- What layout's opening answers. Assumes nothing.
 use Rattle.layout.proofs.AnswerLaws.{answers}
-use borrow.Author.Rules.{rules}
 use Rattle.container.proofs.reading.open.Goals as goal
 
 pub returns : goal.returns

@@ -1,6 +1,5 @@
 -- What signed opening answers. Assumes nothing.
 use Rattle.layout.proofs.AnswerLaws.{answers}
-use borrow.Author.Rules.{rules}
 use Rattle.container.proofs.reading.open_signed.Goals as goal
 
 pub returns : goal.returns

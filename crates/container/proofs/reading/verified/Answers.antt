@@ -1,26 +1,25 @@
 -- `container::reading::verified` meets its contract. Assumes nothing.
+use mathlib.Core.Path.{sym, ◌∙◌}
 use Rattle.layout.proofs.AnswerLaws.{answers}
 use Rattle.steps.proofs.CallLaws.{places, committed_keeps, verdict_unopened, verdict_missing, verdict_there}
-use Rattle.number.proofs.Tests.{failed, passed}
-use borrow.Author.Rules.{rules}
 use Rattle.container.proofs.reading.verified.Goals as goal
 
 pub returns-in_default : goal.returns-in_default
 returns-in_default c =
-    answers (verdict_unopened _ _ c.before.before.before.«open».ensures.case _ _ _ _ c.enum_told-1.given.1 c.refusal_of.ensures)
+    answers (verdict_unopened _ _ c.open-answer.ensures.case _ _ _ _ c.in_default.is c.refusal_of.ensures)
 
 pub returns-then-not-has_partition : goal.returns-then-not-has_partition
 returns-then-not-has_partition c =
-    answers (verdict_missing _ _ c.before.before.before.before.before.«open».ensures.case _ _ c.answer-1.given.1 _ (failed c.has_partition.ensures c.if-not-has_partition.true))
+    answers (verdict_missing _ _ c.open-answer.ensures.case _ _ c.in-Valid.is _ (sym c.has_partition.ensures ∙ c.if-not-has_partition.true))
 
 pub committed_view-requires : goal.committed_view-requires
 committed_view-requires c =
-    places _ _ c.before.before.before.before.before.«open».ensures.case _ _ c.answer-1.given.1 (passed c.has_partition.ensures c.if-not-has_partition.false)
+    places _ _ c.open-answer.ensures.case _ _ c.in-Valid.is (sym c.has_partition.ensures ∙ c.if-not-has_partition.false)
 
 pub judge_block-requires : goal.judge_block-requires
 judge_block-requires c =
-    committed_keeps _ _ c.before.before.before.before.before.before.«open».ensures.case _ _ c.answer-1.given.1 (passed c.has_partition.ensures c.if-not-has_partition.false) _ c.committed_view.ensures
+    committed_keeps _ _ c.open-answer.ensures.case _ _ c.in-Valid.is (sym c.has_partition.ensures ∙ c.if-not-has_partition.false) _ c.committed_view.ensures
 
 pub returns : goal.returns
 returns c =
-    answers (verdict_there _ _ c.before.before.before.before.before.before.before.«open».ensures.case _ _ c.answer-1.given.1 _ (passed c.has_partition.ensures c.if-not-has_partition.false) _ c.committed_view.ensures _ c.judge_block.ensures)
+    answers (verdict_there _ _ c.open-answer.ensures.case _ _ c.in-Valid.is _ (sym c.has_partition.ensures ∙ c.if-not-has_partition.false) _ c.committed_view.ensures _ c.judge_block.ensures)

@@ -1,7 +1,6 @@
 use Rattle.layout.proofs.AnswerLaws.{answers_and}
 use borrow.Author.Tests.{not-true, not-false}
 use Rattle.steps.proofs.SessionLaws.{abandon_idle, abandon_done}
-use borrow.Author.Rules.{rules}
 use Rattle.container.proofs.sessions.abandon.Goals as goal
 
 pub returns-then-not-session : goal.returns-then-not-session

@@ -3,28 +3,27 @@ use Rattle.steps.specs.Calls.{commit_signed}
 use Rattle.steps.proofs.EnterLaws.{session_refused, session_goes_on, entered_well}
 use Rattle.steps.proofs.SessionLaws.{signer_unfit, signed_done}
 use native.Mathlib.Omega.{arith}
-use borrow.Author.Rules.{rules}
 use Rattle.container.proofs.sessions.commit_signed.Goals as goal
 
 pub returns-in_default : goal.returns-in_default
 unfolding commit_signed
-returns-in_default c = session_refused _ _ _ c.enter-answer.ensures _ _ c.enum_told-1.given.1 c.refusal_of.ensures _ _ c.refused.ensures
+returns-in_default c = session_refused _ _ _ c.enter-answer.ensures _ _ c.in_default.is c.refusal_of.ensures _ _ c.refused.ensures
 
 pub header_of-header-requires : goal.header_of-header-requires
-header_of-header-requires c = (entered_well _ _ _ c.enter-answer.ensures _ c.answer-1.given.1).shortest
+header_of-header-requires c = (entered_well _ _ _ c.enter-answer.ensures _ c.in-Valid.is).shortest
 
 pub switch_signed-requires : goal.switch_signed-requires
-switch_signed-requires c = entered_well _ _ _ c.enter-answer.ensures _ c.answer-1.given.1
+switch_signed-requires c = entered_well _ _ _ c.enter-answer.ensures _ c.in-Valid.is
 
 pub header_of-later-requires : goal.header_of-later-requires
-header_of-later-requires c = omega (arith, c.switch_signed.auto.image, (entered_well _ _ _ c.enter-answer.ensures _ c.answer-1.given.1).shortest)
+header_of-later-requires c = omega (arith, c.switch_signed.auto.image, (entered_well _ _ _ c.enter-answer.ensures _ c.in-Valid.is).shortest)
 
 pub returns-in-Refused : goal.returns-in-Refused
 unfolding commit_signed
-returns-in-Refused c = session_goes_on _ _ _ c.enter-answer.ensures _ c.answer-1.given.1 _ _ _
-    (signer_unfit _ _ _ _ _ _ c.judge_signer.ensures _ c.refusal-1.given.1 _ c.refused-in-Refused.ensures)
+returns-in-Refused c = session_goes_on _ _ _ c.enter-answer.ensures _ c.in-Valid.is _ _ _
+    (signer_unfit _ _ _ _ _ _ c.judge_signer.ensures _ c.in-Refused.is _ c.refused-in-Refused.ensures)
 
 pub returns-in-Accepted : goal.returns-in-Accepted
 unfolding commit_signed
-returns-in-Accepted c = session_goes_on _ _ _ c.enter-answer.ensures _ c.answer-1.given.1 _ _ _
-    (signed_done _ _ _ _ _ _ c.judge_signer.ensures c.enum_told-in-Accepted-1.given.1 _ _ _ c.header_of-header.ensures c.header_of-later.ensures c.switch_signed.ensures)
+returns-in-Accepted c = session_goes_on _ _ _ c.enter-answer.ensures _ c.in-Valid.is _ _ _
+    (signed_done _ _ _ _ _ _ c.judge_signer.ensures c.in-Accepted.is _ _ _ c.header_of-header.ensures c.header_of-later.ensures c.switch_signed.ensures)

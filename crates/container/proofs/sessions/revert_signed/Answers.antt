@@ -4,24 +4,23 @@ use Rattle.steps.specs.Calls.{revert_by, revert_signed}
 use Rattle.steps.proofs.EnterLaws.{back_refuses, back_goes_on, back_well}
 use Rattle.steps.proofs.SessionLaws.{reverter_unfit, revert_signed_lem}
 use mathlib.Core.Path.{refl}
-use borrow.Author.Rules.{rules}
 use Rattle.container.proofs.sessions.revert_signed.Goals as goal
 
 pub returns-in_default : goal.returns-in_default
 unfolding revert_signed
-returns-in_default c = back_refuses _ _ _ c.enter_back-answer.ensures _ _ c.enum_told-1.given.1 c.refusal_of.ensures _ _ c.refused.ensures
+returns-in_default c = back_refuses _ _ _ c.enter_back-answer.ensures _ _ c.in_default.is c.refusal_of.ensures _ _ c.refused.ensures
 
 pub store_signed-requires : goal.store_signed-requires
-store_signed-requires c = (back_well _ _ _ c.enter_back-answer.ensures _ c.answer-1.given.1).shortest
+store_signed-requires c = (back_well _ _ _ c.enter_back-answer.ensures _ c.in-Valid.is).shortest
 
 pub returns-in-Refused : goal.returns-in-Refused
 unfolding revert_signed
 returns-in-Refused c =
-    back_goes_on _ _ _ c.enter_back-answer.ensures _ c.answer-1.given.1 (revert_by c.args.image.now c.args.session c.args.key c.args.signer (signed_header c.args.session.header c.args.signer)) _ _
-    (reverter_unfit c.args.image.now c.answer-1.given.0.0 c.args.session c.args.key c.args.signer _ refl _ c.judge_header.ensures _ c.refusal-1.given.1 _ c.refused-in-Refused.ensures)
+    back_goes_on _ _ _ c.enter_back-answer.ensures _ c.in-Valid.is (revert_by c.args.image.now c.args.session c.args.key c.args.signer (signed_header c.args.session.header c.args.signer)) _ _
+    (reverter_unfit c.args.image.now c.in-Valid._c c.args.session c.args.key c.args.signer _ refl _ c.judge_header.ensures _ c.in-Refused.is _ c.refused-in-Refused.ensures)
 
 pub returns-in-Accepted : goal.returns-in-Accepted
 unfolding revert_signed
 returns-in-Accepted c =
-    back_goes_on _ _ _ c.enter_back-answer.ensures _ c.answer-1.given.1 (revert_by c.args.image.now c.args.session c.args.key c.args.signer (signed_header c.args.session.header c.args.signer)) _ _
-    (revert_signed_lem c.args.image.now c.answer-1.given.0.0 c.args.session c.args.key c.args.signer _ refl _ c.judge_header.ensures c.enum_told-in-Accepted-1.given.1 _ _ c.new.ensures c.store_signed.ensures)
+    back_goes_on _ _ _ c.enter_back-answer.ensures _ c.in-Valid.is (revert_by c.args.image.now c.args.session c.args.key c.args.signer (signed_header c.args.session.header c.args.signer)) _ _
+    (revert_signed_lem c.args.image.now c.in-Valid._c c.args.session c.args.key c.args.signer _ refl _ c.judge_header.ensures c.in-Accepted.is _ _ c.new.ensures c.store_signed.ensures)

@@ -1,27 +1,26 @@
 -- `save::calls::find_file` meets its contract. Assumes nothing.
+use mathlib.Core.Path.{sym, ◌∙◌}
 use Rattle.layout.proofs.AnswerLaws.{answers}
-use Rattle.number.proofs.Tests.{failed, passed}
 use Rattle.steps.proofs.CallLaws.{places, committed_keeps}
 use Rattle.save.proofs.CallLaws.{holds_there, find_unopened, find_other, find_there}
-use borrow.Author.Rules.{rules}
 use Rattle.save.proofs.calls.find_file.Goals as goal
 
 pub returns-in_default : goal.returns-in_default
 returns-in_default c =
-    answers (find_unopened c.args.image.now _ c.before.before.before.«open».ensures c.args.folder c.args.name.now _ _ c.enum_told-1.given.1 c.refusal_of.ensures)
+    answers (find_unopened c.args.image.now _ c.open-answer.ensures c.args.folder c.args.name.now _ _ c.in_default.is c.refusal_of.ensures)
 
 pub returns-then-not-holds_save : goal.returns-then-not-holds_save
 returns-then-not-holds_save c =
-    answers (find_other c.args.image.now _ c.before.before.before.before.before.«open».ensures _ c.answer-1.given.1 c.args.folder c.args.name.now (failed c.holds_save.ensures c.if-not-holds_save.true))
+    answers (find_other c.args.image.now _ c.open-answer.ensures _ c.in-Valid.is c.args.folder c.args.name.now (sym c.holds_save.ensures ∙ c.if-not-holds_save.true))
 
 pub committed_view-requires : goal.committed_view-requires
 committed_view-requires c =
-    places c.args.image.now _ c.before.before.before.before.before.«open».ensures 0 _ c.answer-1.given.1 (holds_there _ (passed c.holds_save.ensures c.if-not-holds_save.false))
+    places c.args.image.now _ c.open-answer.ensures 0 _ c.in-Valid.is (holds_there _ (sym c.holds_save.ensures ∙ c.if-not-holds_save.false))
 
 pub find_in-requires : goal.find_in-requires
 find_in-requires c =
-    committed_keeps c.args.image.now _ c.before.before.before.before.before.before.before.«open».ensures 0 _ c.answer-1.given.1 (holds_there _ (passed c.holds_save.ensures c.if-not-holds_save.false)) _ c.committed_view.ensures
+    committed_keeps c.args.image.now _ c.open-answer.ensures 0 _ c.in-Valid.is (holds_there _ (sym c.holds_save.ensures ∙ c.if-not-holds_save.false)) _ c.committed_view.ensures
 
 pub returns : goal.returns
 returns c =
-    answers (find_there c.args.image.now _ c.before.before.before.before.before.before.before.before.«open».ensures _ c.answer-1.given.1 c.args.folder c.args.name.now (passed c.holds_save.ensures c.if-not-holds_save.false) _ c.committed_view.ensures _ c.find_in.ensures)
+    answers (find_there c.args.image.now _ c.open-answer.ensures _ c.in-Valid.is c.args.folder c.args.name.now (sym c.holds_save.ensures ∙ c.if-not-holds_save.false) _ c.committed_view.ensures _ c.find_in.ensures)

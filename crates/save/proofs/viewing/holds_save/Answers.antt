@@ -2,7 +2,6 @@
 use Rattle.save.specs.Calls.{holds_save}
 use mathlib.Core.Bool.{◌&&◌, not}
 use lib.Dec.{eqb}
-use borrow.Author.Rules.{rules}
 use Rattle.save.proofs.viewing.holds_save.Goals as goal
 
 pub returns : goal.returns
