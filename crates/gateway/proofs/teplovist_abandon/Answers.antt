@@ -3,7 +3,6 @@ use mathlib.Core.Path.{◌∙◌}
 use Rattle.gateway.proofs.CallLaws.{ended, left}
 use Rattle.steps.specs.Calls as calls
 use Rattle.boundary.specs.Boundary.{session_left}
-use borrow.Author.Rules.{rules}
 use Rattle.gateway.proofs.teplovist_abandon.Goals as goal
 
 pub returns : goal.returns

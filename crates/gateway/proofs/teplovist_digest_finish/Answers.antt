@@ -1,6 +1,5 @@
 -- The call's contract, through the digest's bytes and the answer's number. Assumes nothing.
 use Rattle.boundary.proofs.StateLaws.{finished_bytes}
-use borrow.Author.Rules.{rules}
 use Rattle.gateway.proofs.teplovist_digest_finish.Goals as goal
 
 pub returns : goal.returns

@@ -2,7 +2,6 @@
 use mathlib.Core.Path.{◌∙◌}
 use Rattle.blank.specs.Making.{made}
 use Rattle.gateway.proofs.CallLaws.{ended}
-use borrow.Author.Rules.{rules}
 use Rattle.gateway.proofs.teplovist_make_blank.Goals as goal
 
 pub returns : goal.returns

@@ -4,7 +4,6 @@ use Rattle.boundary.specs.Boundary.{packed, description_left}
 use Rattle.signatures.specs.Signatures.{opened_signed}
 use Rattle.layout.specs.declared.Opened.{Opened}
 use mathlib.Core.Path.{◌∙◌, ap}
-use borrow.Author.Rules.{rules}
 use Rattle.gateway.proofs.teplovist_open_signed.Goals as goal
 
 pub returns : goal.returns

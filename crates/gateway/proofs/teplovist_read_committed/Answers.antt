@@ -1,6 +1,5 @@
 -- The call's contract, through the answer's number.
 use Rattle.gateway.proofs.CallLaws.{answered}
-use borrow.Author.Rules.{rules}
 use Rattle.gateway.proofs.teplovist_read_committed.Goals as goal
 
 pub returns : goal.returns

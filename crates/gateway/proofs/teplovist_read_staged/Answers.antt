@@ -2,7 +2,6 @@
 use mathlib.Core.Path.{◌∙◌}
 use Rattle.gateway.proofs.CallLaws.{answered}
 use Rattle.steps.specs.Calls as calls
-use borrow.Author.Rules.{rules}
 use Rattle.gateway.proofs.teplovist_read_staged.Goals as goal
 
 pub returns : goal.returns

@@ -1,7 +1,6 @@
 -- The call's contract, through the answer's number and the session's bytes.
 use Rattle.gateway.proofs.CallLaws.{called}
 use Rattle.steps.specs.Calls as calls
-use borrow.Author.Rules.{rules}
 use Rattle.gateway.proofs.teplovist_revert.Goals as goal
 
 pub returns : goal.returns

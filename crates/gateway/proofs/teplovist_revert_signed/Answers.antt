@@ -3,7 +3,6 @@ use Rattle.steps.specs.Calls as calls
 use Rattle.gateway.proofs.CallLaws.{called_by}
 use Rattle.signing.specs.declared.Signer.{Signer}
 use Rattle.steps.specs.declared.Session.{Session}
-use borrow.Author.Rules.{rules}
 use Rattle.gateway.proofs.teplovist_revert_signed.Goals as goal
 
 pub returns : goal.returns

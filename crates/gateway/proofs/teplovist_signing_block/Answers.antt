@@ -3,7 +3,6 @@ use mathlib.Core.Path.{ap, ◌∙◌}
 use Rattle.signing.specs.Calls.{signed, built_as, block_left}
 use Rattle.signing.specs.Calls.{built_says}
 use Rattle.boundary.specs.Boundary.{packed}
-use borrow.Author.Rules.{rules}
 use Rattle.gateway.proofs.teplovist_signing_block.Goals as goal
 
 pub returns : goal.returns

@@ -3,7 +3,6 @@ use mathlib.Core.Path.{ap, ◌∙◌}
 use Rattle.signing.specs.Calls.{signed, outcome_of, digest_left}
 use Rattle.layout.specs.Refusals.{outcome_says}
 use Rattle.boundary.specs.Boundary.{packed}
-use borrow.Author.Rules.{rules}
 use Rattle.gateway.proofs.teplovist_signing_digest.Goals as goal
 
 pub returns : goal.returns

@@ -1,7 +1,6 @@
 -- The call's contract, through the answer's number.
 use mathlib.Core.Path.{ap, ◌∙◌}
 use Rattle.boundary.specs.Boundary.{packed}
-use borrow.Author.Rules.{rules}
 use Rattle.gateway.proofs.teplovist_verified.Goals as goal
 
 pub returns : goal.returns

@@ -1,5 +1,4 @@
 -- The description, or the numbers before.
-use borrow.Author.Rules.{rules}
 use Rattle.boundary.proofs.description.description_left.Goals as goal
 
 pub returns-in-Valid : goal.returns-in-Valid

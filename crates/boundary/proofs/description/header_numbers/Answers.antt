@@ -1,6 +1,5 @@
 -- The numbers stand in the definition's order.
 use Rattle.boundary.specs.Boundary.{header_numbers}
-use borrow.Author.Rules.{rules}
 use Rattle.boundary.proofs.description.header_numbers.Goals as goal
 
 pub returns : goal.returns

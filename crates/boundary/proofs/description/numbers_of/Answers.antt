@@ -1,6 +1,5 @@
 -- The three runs are the description.
 use Rattle.boundary.specs.Boundary.{description}
-use borrow.Author.Rules.{rules}
 use Rattle.boundary.proofs.description.numbers_of.Goals as goal
 
 pub returns : goal.returns

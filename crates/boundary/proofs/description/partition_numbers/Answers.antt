@@ -1,6 +1,5 @@
 -- The two runs are the partition's numbers.
 use Rattle.boundary.specs.Boundary.{partition_numbers}
-use borrow.Author.Rules.{rules}
 use Rattle.boundary.proofs.description.partition_numbers.Goals as goal
 
 pub returns : goal.returns

@@ -1,10 +1,8 @@
 -- The loop's invariant: what is left of the run, laid over the target as it is, is the whole run over the target as it was.
 use Prim.Native.Nat.{◌≤◌, ◌-◌, ◌+◌}
-use mathlib.Core.Path.{◌≡◌, refl, sym, ◌∙◌}
-use native.Mathlib.Omega.{arith}
-use lib.ListN.{length, drop, length-set}
+use mathlib.Core.Path.{◌≡◌}
+use lib.ListN.{length, drop}
 use lib.Seq.{sets}
-use Rattle.number.proofs.ListLaws.{sets_start, sets_step, sets_end}
 use Rattle.boundary.proofs.description.put_numbers.Given as goal
 
 abbrev pub invariant-loop-k : goal.invariant-loop-k

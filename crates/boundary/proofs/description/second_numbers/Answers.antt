@@ -1,5 +1,4 @@
 -- Zeros, or B's numbers.
-use borrow.Author.Rules.{rules}
 use Rattle.boundary.proofs.description.second_numbers.Goals as goal
 
 pub returns-in-There : goal.returns-in-There

@@ -1,7 +1,6 @@
 -- `join`: words, block and count, one after the other. Assumes nothing.
 use native.Mathlib.Omega.{arith}
 use Rattle.boundary.proofs.StateLaws.{joined}
-use borrow.Author.Rules.{rules}
 use Rattle.boundary.proofs.digests.join.Goals as goal
 
 pub returns : goal.returns

@@ -5,7 +5,6 @@ use Prim.Native.Nat.{ℕ}
 use native.Mathlib.Omega.{arith}
 use Rattle.number.specs.Fields.{le32, field_bytes}
 use Rattle.boundary.proofs.StateLaws.{word_in, word_before}
-use borrow.Author.Rules.{rules}
 use Rattle.boundary.proofs.digests.put_word.Goals as goal
 
 pub returns : goal.returns

@@ -1,9 +1,6 @@
-use mathlib.Core.Path.{◌≡◌, refl, ◌∙◌}
-use Prim.Native.Nat.{◌-◌, ◌≤◌}
+use mathlib.Core.Path.{refl, ◌∙◌}
 use native.Mathlib.Omega.{arith}
-use lib.ListN.{length}
-use Rattle.boundary.proofs.StateLaws.{Words, words_more}
-use borrow.Author.Rules.{rules}
+use Rattle.boundary.proofs.StateLaws.{words_more}
 use Rattle.boundary.proofs.digests.put_words.Goals as goal
 
 pub loop-k-init : goal.loop-k-init

@@ -1,10 +1,8 @@
 -- `put_words`: after k turns the first k words read back. Assumes nothing.
-use mathlib.Core.Path.{◌≡◌, refl, ◌∙◌}
+use mathlib.Core.Path.{◌≡◌}
 use Prim.Native.Nat.{◌-◌, ◌≤◌}
-use native.Mathlib.Omega.{arith}
 use lib.ListN.{length}
-use Rattle.boundary.proofs.StateLaws.{Words, words_more}
-use borrow.Author.Rules.{rules}
+use Rattle.boundary.proofs.StateLaws.{Words}
 use Rattle.boundary.proofs.digests.put_words.Given as goal
 
 abbrev pub invariant-loop-k : goal.invariant-loop-k

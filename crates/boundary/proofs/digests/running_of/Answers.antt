@@ -1,7 +1,6 @@
 -- `running_of`: the words, the block and the count are read. Assumes nothing.
 use native.Mathlib.Omega.{arith}
 use Rattle.boundary.proofs.StateLaws.{read}
-use borrow.Author.Rules.{rules}
 use Rattle.boundary.proofs.digests.running_of.Goals as goal
 
 pub returns : goal.returns

@@ -1,9 +1,7 @@
-use mathlib.Core.Path.{◌≡◌, refl, ◌∙◌}
-use Prim.Native.Nat.{◌-◌, ◌≤◌}
+use mathlib.Core.Path.{refl, ◌∙◌}
 use native.Mathlib.Omega.{arith}
-use lib.ListN.{length, length-set}
-use borrow.Author.Rules.{rules}
-use Rattle.boundary.proofs.StateLaws.{Words, read_more, all_read}
+use lib.ListN.{length-set}
+use Rattle.boundary.proofs.StateLaws.{read_more, all_read}
 use Rattle.boundary.proofs.digests.words_of.Goals as goal
 
 pub loop-k-init : goal.loop-k-init

@@ -1,10 +1,8 @@
 -- `words_of`: after k turns the first k words are read. Assumes nothing.
-use mathlib.Core.Path.{◌≡◌, refl, ◌∙◌}
+use mathlib.Core.Path.{◌≡◌}
 use Prim.Native.Nat.{◌-◌, ◌≤◌}
-use native.Mathlib.Omega.{arith}
-use lib.ListN.{length, length-set}
-use borrow.Author.Rules.{rules}
-use Rattle.boundary.proofs.StateLaws.{Words, read_more, all_read}
+use lib.ListN.{length}
+use Rattle.boundary.proofs.StateLaws.{Words}
 use Rattle.boundary.proofs.digests.words_of.Given as goal
 
 abbrev pub invariant-loop-k : goal.invariant-loop-k

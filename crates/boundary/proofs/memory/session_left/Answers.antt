@@ -1,5 +1,4 @@
 -- The session's bytes, or those before.
-use borrow.Author.Rules.{rules}
 use Rattle.boundary.proofs.memory.session_left.Goals as goal
 
 pub returns-in-Accepted : goal.returns-in-Accepted

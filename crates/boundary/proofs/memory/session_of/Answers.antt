@@ -1,6 +1,5 @@
 -- The copied bytes are the headers, whole.
 use Rattle.boundary.specs.Boundary.{session_of}
-use borrow.Author.Rules.{rules}
 use Rattle.boundary.proofs.memory.session_of.Goals as goal
 
 pub returns : goal.returns

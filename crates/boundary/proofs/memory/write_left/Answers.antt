@@ -1,5 +1,4 @@
 -- The session's bytes, if the write is dropped, or those before.
-use borrow.Author.Rules.{rules}
 use Rattle.boundary.proofs.memory.write_left.Goals as goal
 
 pub returns-in-Dropped : goal.returns-in-Dropped
