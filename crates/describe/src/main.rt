@@ -5,8 +5,9 @@
 use container::reading::{count_verified, open};
 use layout::refusals::number_of;
 use layout::{Container, Kind, Opened, Partition, Refusal, Second};
-use libc::{STDIN_FILENO, STDOUT_FILENO};
 use number::blocks::block_count;
+use std::io;
+use std::io::Read;
 use steps::Count;
 
 const LONGEST_INPUT: usize = 65_536;
@@ -18,88 +19,92 @@ enum Input {
     Failed,
 }
 
-fn print(text: &[u8]) {
-    io::write_all(STDOUT_FILENO, text);
+fn print(rt: &impl Print, text: &[u8]) -> io::Result<()> {
+    rt.write_all(text)
 }
 
-fn print_number(n: u64) {
-    io::print_decimal(STDOUT_FILENO, n);
+fn print_number(rt: &impl Print, n: u64) -> io::Result<()> {
+    print!(rt; "{n}")
 }
 
-fn print_refusal(r: Refusal) {
-    print(b"refused ");
-    print_number(number_of(r));
-    print(b"\n");
+fn print_refusal(rt: &impl Print, r: Refusal) -> io::Result<()> {
+    print(rt, b"refused ")?;
+    print_number(rt, number_of(r))?;
+    print(rt, b"\n")
 }
 
-fn print_count(count: Count) {
+fn print_count(rt: &impl Print, count: Count) -> io::Result<()> {
     match count {
-        Count::Blocks(n) => print_number(n),
-        Count::Refused(r) => print_refusal(r),
+        Count::Blocks(n) => print_number(rt, n),
+        Count::Refused(r) => print_refusal(rt, r),
     }
 }
 
 // One partition's line.
-fn print_partition(image: &[u8], name: &[u8], q: u64, p: Partition) {
+fn print_partition(
+    rt: &impl Print,
+    image: &[u8],
+    name: &[u8],
+    q: u64,
+    p: Partition,
+) -> io::Result<()> {
     let level = p.ivfc.level4;
-    print(name);
-    print(b" level4 ");
-    print_number(level.size);
-    print(b" blocks ");
-    print_number(block_count(level));
-    print(b" stands ");
-    print_count(count_verified(image, q));
-    print(b"\n");
+    print(rt, name)?;
+    print(rt, b" level4 ")?;
+    print_number(rt, level.size)?;
+    print(rt, b" blocks ")?;
+    print_number(rt, block_count(level))?;
+    print(rt, b" stands ")?;
+    print_count(rt, count_verified(image, q))?;
+    print(rt, b"\n")
 }
 
-fn print_kind(kind: Kind) {
+fn print_kind(rt: &impl Print, kind: Kind) -> io::Result<()> {
     match kind {
-        Kind::Disa => print(b"DISA\n"),
-        Kind::Diff => print(b"DIFF\n"),
+        Kind::Disa => print(rt, b"DISA\n"),
+        Kind::Diff => print(rt, b"DIFF\n"),
     }
 }
 
-fn print_table(flag: u32) {
+fn print_table(rt: &impl Print, flag: u32) -> io::Result<()> {
     if flag == 0 {
-        print(b"table primary\n");
+        print(rt, b"table primary\n")
     } else {
-        print(b"table secondary\n");
+        print(rt, b"table secondary\n")
     }
 }
 
-fn print_container(image: &[u8], c: Container) {
+fn print_container(rt: &impl Print, image: &[u8], c: Container) -> io::Result<()> {
     let h = c.header;
     let kind = h.kind;
-    print_kind(kind);
-    print(b"partitions ");
-    print_number(h.count as u64);
-    print(b"\n");
-    print_table(h.flag);
+    print_kind(rt, kind)?;
+    print(rt, b"partitions ")?;
+    print_number(rt, h.count as u64)?;
+    print(rt, b"\n")?;
+    print_table(rt, h.flag)?;
     let a = c.a;
-    print_partition(image, b"A", 0, a);
+    print_partition(rt, image, b"A", 0, a)?;
     let second = c.b;
     match second {
-        Second::Missing => {}
-        Second::There(b) => print_partition(image, b"B", 1, b),
+        Second::Missing => Ok(()),
+        Second::There(b) => print_partition(rt, image, b"B", 1, b),
     }
 }
 
-fn describe(image: &[u8]) {
+fn describe(rt: &impl Print, image: &[u8]) -> io::Result<()> {
     match open(image) {
-        Opened::Valid(c) => print_container(image, c),
-        Opened::Refused(r) => print_refusal(r),
+        Opened::Valid(c) => print_container(rt, image, c),
+        Opened::Refused(r) => print_refusal(rt, r),
     }
 }
 
-// Takes standard input until the buffer is full or the input ends.
-fn take_input(buffer: &mut [u8]) -> Input {
+// Takes the input until the buffer is full or the input ends.
+fn take_input(input: &mut impl Read, buffer: &mut [u8]) -> Input {
     let mut n = 0;
     while n < buffer.len() {
-        let got = libc::read(STDIN_FILENO, &mut buffer[n..]);
-        if got < 0 {
+        let Ok(more) = input.read(&mut buffer[n..]) else {
             return Input::Failed;
-        }
-        let more = io::count(got, &buffer[n..]);
+        };
         if more == 0 {
             return Input::Bytes(n);
         }
@@ -108,16 +113,14 @@ fn take_input(buffer: &mut [u8]) -> Input {
     Input::Bytes(n)
 }
 
-fn main() {
+fn main(rt: HostRuntime) -> io::Result<()> {
     let mut buffer = [0u8; LONGEST_INPUT + 1];
-    let input = take_input(&mut buffer);
+    let input = take_input(&mut rt.reader(), &mut buffer);
     let Input::Bytes(n) = input else {
-        print(b"cannot read\n");
-        return;
+        return print(&rt, b"cannot read\n");
     };
     if LONGEST_INPUT < n {
-        print(b"too long\n");
-        return;
+        return print(&rt, b"too long\n");
     }
-    describe(&buffer[..n]);
+    describe(&rt, &buffer[..n])
 }

@@ -5,7 +5,7 @@
 ghost use Rattle.std.specs.Prelude.{◌*◌, ◌%◌, ◌<◌, ◌≤◌, ◌≡◌, length};
 
 use dpfs::bits::bit_in;
-use libc::STDOUT_FILENO;
+use std::io;
 
 // The shortest half, and the longest of level 2 of which every bit can name a block.
 const SHORTEST: usize = 4;
@@ -50,17 +50,14 @@ fn mark(half: &[u8]) -> u64
 }
 
 // The mark of a half's first bytes.
-fn print_mark(half: &[u8], size: usize)
+fn print_mark(rt: &impl Print, half: &[u8], size: usize) -> io::Result<()>
     requires { (size % 4 ≡ 0) × (size ≤ 0x20000) × (size ≤ length half.now) }
 {
-    io::print_decimal(STDOUT_FILENO, size as u64);
-    io::write_all(STDOUT_FILENO, b" bytes ");
-    io::print_decimal(STDOUT_FILENO, mark(&half[..size]));
-    io::write_all(STDOUT_FILENO, b"\n");
+    println!(rt; "{size} bytes {}", mark(&half[..size]))
 }
 
-fn main() {
+fn main(rt: HostRuntime) -> io::Result<()> {
     let half = ruled();
-    print_mark(&half, SHORTEST);
-    print_mark(&half, LONGEST);
+    print_mark(&rt, &half, SHORTEST)?;
+    print_mark(&rt, &half, LONGEST)
 }

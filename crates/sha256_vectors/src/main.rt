@@ -5,30 +5,29 @@
 ghost use Rattle.std.specs.Prelude.{◌≡◌, ◌+◌, ◌<◌, ◌≤◌, length};
 ghost use Rattle.sha256.specs.Sha256.{sha256 as SHA-256};
 
-use libc::STDOUT_FILENO;
 use sha256::running;
+use std::io;
 
 // How many bytes the message of the rule has.
 const LENGTH: usize = 6400;
 
-fn print(digest: [u8; 32]) {
+fn print(rt: &impl Print, digest: [u8; 32]) -> io::Result<()> {
     let mut i = 0;
     while i < 32 {
-        io::print_hex(STDOUT_FILENO, wide(digest[i]), 2);
+        print!(rt; "{:02x}", wide(digest[i]))?;
         i += 1;
     }
-    io::write_all(STDOUT_FILENO, b"\n");
+    println!(rt;)
 }
 
 fn wide(byte: u8) -> u64 {
     byte as u64
 }
 
-fn print_named(name: &[u8], number: usize, digest: [u8; 32]) {
-    io::write_all(STDOUT_FILENO, name);
-    io::print_decimal(STDOUT_FILENO, number as u64);
-    io::write_all(STDOUT_FILENO, b" ");
-    print(digest);
+fn print_named(rt: &impl Print, name: &[u8], number: usize, digest: [u8; 32]) -> io::Result<()> {
+    rt.write_all(name)?;
+    print!(rt; "{number} ")?;
+    print(rt, digest)
 }
 
 // The message of the rule: byte i is 7 i + i / 256, modulo 256.
@@ -42,27 +41,27 @@ fn ruled() -> [u8; LENGTH] {
     message
 }
 
-fn prefix(message: &[u8], n: usize)
+fn prefix(rt: &impl Print, message: &[u8], n: usize) -> io::Result<()>
     requires { n ≤ length message.now }
 {
-    print_named(b"prefix ", n, sha256::digest(&message[..n]));
+    print_named(rt, b"prefix ", n, sha256::digest(&message[..n]))
 }
 
 // Every length past the borders of the padding of one and of two blocks, and some long ones.
-fn prefixes(message: &[u8])
+fn prefixes(rt: &impl Print, message: &[u8]) -> io::Result<()>
     requires { length message.now ≡ 6400 }
 {
     let mut n = 0;
     while n < 131 {
-        prefix(message, n);
+        prefix(rt, message, n)?;
         n += 1;
     }
-    prefix(message, 163);
-    prefix(message, 1000);
-    prefix(message, 4095);
-    prefix(message, 4096);
-    prefix(message, 4097);
-    prefix(message, LENGTH);
+    prefix(rt, message, 163)?;
+    prefix(rt, message, 1000)?;
+    prefix(rt, message, 4095)?;
+    prefix(rt, message, 4096)?;
+    prefix(rt, message, 4097)?;
+    prefix(rt, message, LENGTH)
 }
 
 fn piece_end(at: usize, size: usize, n: usize) -> usize
@@ -90,14 +89,15 @@ fn in_pieces(message: &[u8], size: usize) -> [u8; 32]
 }
 
 // A thousand bytes, cut into pieces of every size from 1 to 130.
-fn pieces(message: &[u8])
+fn pieces(rt: &impl Print, message: &[u8]) -> io::Result<()>
     requires { length message.now ≡ 6400 }
 {
     let mut size = 1;
     while size < 131 {
-        print_named(b"pieces of ", size, in_pieces(&message[..1000], size));
+        print_named(rt, b"pieces of ", size, in_pieces(&message[..1000], size))?;
         size += 1;
     }
+    Ok(())
 }
 
 // The million times 'a', in a thousand pieces.
@@ -113,25 +113,25 @@ fn million() -> [u8; 32] {
     running::finish(fed)
 }
 
-fn short(message: &[u8]) {
-    print_named(b"short ", message.len(), sha256::digest(message));
+fn short(rt: &impl Print, message: &[u8]) -> io::Result<()> {
+    print_named(rt, b"short ", message.len(), sha256::digest(message))
 }
 
-fn shorts() {
-    short(b"");
-    short(b"\xd3");
-    short(b"\x11\xaf");
-    short(b"\xb4\x19\x0e");
-    short(b"\x74\xba\x25\x21");
-    short(b"\xc2\x99\x20\x96\x82");
-    short(b"\xe1\xdc\x72\x4d\x56\x21");
-    short(b"\x06\xe0\x76\xf5\xa4\x42\xd5");
-    short(b"\x57\x38\xc9\x29\xc4\xf4\xcc\xb6");
-    short(b"\x33\x34\xc5\x80\x75\xd3\xf4\x13\x9e");
-    short(b"\x74\xcb\x93\x81\xd8\x9f\x5a\xa7\x33\x68");
-    short(b"\x76\xed\x24\xa0\xf4\x0a\x41\x22\x1e\xbf\xcf");
-    short(b"\x9b\xaf\x69\xcb\xa3\x17\xf4\x22\xfe\x26\xa9\xa0");
-    short(b"\x68\x51\x1c\xdb\x2d\xbb\xf3\x53\x0d\x7f\xb6\x1c\xbc");
+fn shorts(rt: &impl Print) -> io::Result<()> {
+    short(rt, b"")?;
+    short(rt, b"\xd3")?;
+    short(rt, b"\x11\xaf")?;
+    short(rt, b"\xb4\x19\x0e")?;
+    short(rt, b"\x74\xba\x25\x21")?;
+    short(rt, b"\xc2\x99\x20\x96\x82")?;
+    short(rt, b"\xe1\xdc\x72\x4d\x56\x21")?;
+    short(rt, b"\x06\xe0\x76\xf5\xa4\x42\xd5")?;
+    short(rt, b"\x57\x38\xc9\x29\xc4\xf4\xcc\xb6")?;
+    short(rt, b"\x33\x34\xc5\x80\x75\xd3\xf4\x13\x9e")?;
+    short(rt, b"\x74\xcb\x93\x81\xd8\x9f\x5a\xa7\x33\x68")?;
+    short(rt, b"\x76\xed\x24\xa0\xf4\x0a\x41\x22\x1e\xbf\xcf")?;
+    short(rt, b"\x9b\xaf\x69\xcb\xa3\x17\xf4\x22\xfe\x26\xa9\xa0")?;
+    short(rt, b"\x68\x51\x1c\xdb\x2d\xbb\xf3\x53\x0d\x7f\xb6\x1c\xbc")
 }
 
 // The last two digests, and the new one.
@@ -164,24 +164,25 @@ fn chain(seed: [u8; 32]) -> [u8; 32] {
     last
 }
 
-fn chains() {
+fn chains(rt: &impl Print) -> io::Result<()> {
     let mut seed =
         *b"\xf4\x1e\xce\x26\x13\xe4\x57\x39\x15\x69\x6b\x5a\xdc\xd5\x1c\xa3\x28\xbe\x3b\xf5\x66\xa9\xca\x99\xc9\xce\xb0\x27\x9c\x1c\xb0\xa7";
     let mut i = 0;
     while i < 100 {
         let next = chain(seed);
         seed = next;
-        print_named(b"chain ", i, seed);
+        print_named(rt, b"chain ", i, seed)?;
         i += 1;
     }
+    Ok(())
 }
 
-fn main() {
-    shorts();
+fn main(rt: HostRuntime) -> io::Result<()> {
+    shorts(&rt)?;
     let message = ruled();
-    prefixes(&message);
-    pieces(&message);
-    io::write_all(STDOUT_FILENO, b"million ");
-    print(million());
-    chains();
+    prefixes(&rt, &message)?;
+    pieces(&rt, &message)?;
+    print!(rt; "million ")?;
+    print(&rt, million())?;
+    chains(&rt)
 }
