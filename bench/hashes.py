@@ -38,13 +38,14 @@ class Returned(gdb.Breakpoint):
 
 
 class Hashing(gdb.Breakpoint):
-    """digests_from(view, image, i, b, end): the result's place, the level and the first block are in registers. It does not call itself."""
+    """digests_from(view, image, i, b, end): the places of the result and of the view, the image's two words, the level and the first block are in
+    registers, in this order. It does not call itself."""
 
     def stop(self):
         place = word(register('rsp'))
         if place not in Returned.places:
             Returned.places[place] = Returned(f'*{place:#x}', internal=True)
-        Returned.waiting = (register('rdi'), register('rcx'), register('r8'))
+        Returned.waiting = (register('rdi'), register('r8'), register('r9'))
         return False
 
 

@@ -1,9 +1,9 @@
-//! Links the archive of the proved library, which `rt staticlib gateway` writes.
+//! Links the archive of the proved library, which `bash tests/archive` makes.
 
 use std::path::Path;
 
 const MISSING: &str =
-    "target/staticlib/libgateway.a is not there: run `rt staticlib gateway` (or `bash tests/archive`)";
+    "target/staticlib/libgateway.a is not there: run `bash tests/archive` at the top of the repository";
 
 fn main() {
     let here = std::env::var("CARGO_MANIFEST_DIR").expect("cargo names the folder");

@@ -3,7 +3,7 @@
 # first also the paper's own; the others follow from the paper's table of refusals.
 set -eu
 cd "$(dirname "$0")/.."
-rt check describe
+python3 tests/libraries.py program describe
 folder=$(mktemp -d)
 trap 'rm -r "$folder"' EXIT
 failed=0 passed=0

@@ -1,22 +1,26 @@
-"""edits.py LIST CRATES LOGS: where the prover loses the fact, for each must-fail edit.
+"""edits.py LIST CRATES LOG: where the prover loses the fact, for each must-fail edit.
+edits.py --write LIST CRATES LOG: writes the list anew, and prints what moved; to be read before it is committed. An edit of which the log does not
+tell keeps its line.
 
-LIST has one line for each edit, `CRATE/EDIT FILE NAME`: the first fault of its log stands in the crate's FILE, in the declaration NAME (a need
-of a function, or a law). CRATES/CRATE/must-fail/EDIT.edit are the edits, LOGS/CRATE/EDIT/.log what the prover said of them. Prints what is
-otherwise; exit 1 if anything is."""
+LIST has one line for each edit, `CRATE/EDIT FILE NAME`: the first fault that is told of it stands in the crate's FILE, in the declaration NAME (a goal of a
+function, or a law). Of a function whose goals the tactics are left to prove FILE is `src/FILE.rt#FUNCTION`. CRATES/CRATE/must-fail/EDIT.edit are the
+edits, LOG what `rt ci` or `rt must-fail` said of them, one line for each. Prints what is otherwise; exit 1 if anything is."""
 import pathlib
 import re
 import sys
 
-# An error, but not one that only says that something it rests on has one.
-ERROR = re.compile(r'^(?P<path>\S+):\d+:\d+: error: (?!.* was not admitted )(?:`(?P<name>[^`]+)`)?', re.M)
-# A function without a proof file: what the prover's own search left open.
-OPEN = re.compile(r'^fn \S+: no proof: expected `[^`]+` in (?P<path>\S+); `search` does not close `(?P<name>[^`]+)`', re.M)
+# What is said of an edit; a fault in a file, and a goal that nothing proves.
+TOLD = re.compile(r'^rt: must-fail (?P<edit>[^/\s]+/\S+)\.edit: (?P<said>.*)', re.M)
+REFUSED = 'refused, as it must be: '
+ERROR = re.compile(r'(?:\./)?(?P<path>\S+):(?P<line>\d+):\d+: error: `(?P<name>[^`]+)`')
+OPEN = re.compile(r'note: (?:\./)?(?P<path>\S+):(?P<line>\d+):\d+: .*?\(`(?P<name>[^`]+)`\)')
+FUNCTION = re.compile(r'^\s*(?:pub(?:\([a-z]+\))?\s+)?(?:extern\s+"C"\s+)?fn\s+(\w+)')
 
 
 def expectations(path):
     found = {}
     for line in path.read_text(encoding='utf-8').splitlines():
-        words = line.partition('#')[0].split()
+        words = line.partition(' # ')[0].split() if not line.startswith('#') else []
         if len(words) == 3 and words[0] not in found:
             found[words[0]] = ' '.join(words[1:])
         elif words:
@@ -24,29 +28,70 @@ def expectations(path):
     return found
 
 
-def first_fault(edit, logs):
+def enclosing(source, line):
+    """The function in which a line of a source stands. (An edit leaves every line where it is.)"""
+    names = [match[1] for match in map(FUNCTION.match, source.read_text(encoding='utf-8').splitlines()[:line]) if match]
+    return names[-1] if names else '(no function)'
+
+
+def first_fault(edit, said, crates):
     """The file, relative to the crate, and the declaration of the first fault; or why there is none."""
-    log = logs / edit / '.log'
-    if not log.is_file():
-        return 'no log: `rt ci` makes it'
-    text = log.read_text(encoding='utf-8')
-    fault = ERROR.search(text) or OPEN.search(text)
+    if not said.startswith(REFUSED):
+        return said.partition(':')[0]
+    fault = ERROR.match(said[len(REFUSED):]) or OPEN.match(said[len(REFUSED):])
     if not fault:
-        return 'no error in the log'
-    return f"{fault['path'].rpartition(f'/{edit}/')[2]} {fault['name'] or '(no name)'}"
+        return f'no fault with a name: {said}'
+    path = fault['path']
+    if path.endswith('.rt'):
+        source = crates / edit.partition('/')[0] / path
+        path += f'#{enclosing(source, int(fault["line"]))}' if source.is_file() else ''
+    return f"{path} {fault['name']}"
 
 
-def main(expected_path, crates, logs):
-    expected = expectations(pathlib.Path(expected_path))
-    edits = {f'{path.parts[-3]}/{path.stem}' for path in pathlib.Path(crates).glob('*/must-fail/*.edit')}
+def faults(crates, log):
+    """Of each edit that the log tells of, the first fault. Where it is told of twice, both must be the same."""
+    found = {}
+    for match in TOLD.finditer(log.read_text(encoding='utf-8', errors='replace')):
+        fault = first_fault(match['edit'], match['said'], crates)
+        found[match['edit']] = fault if found.get(match['edit'], fault) == fault else f'{found[match["edit"]]}, and {fault}'
+    return found
+
+
+def write(path, edits, found):
+    """The list as it is found to be, below the comments that it begins with."""
+    old = expectations(path) if path.is_file() else {}
+    found = {**old, **found}
+    known = [edit for edit in edits if re.fullmatch(r'\S+ \S+', found.get(edit, ''))]
+    for edit in edits:
+        if found.get(edit) != old.get(edit):
+            print(f'{edit}: {old.get(edit, "not listed")} -> {found.get(edit, "not told of")}')
+    head = [line for line in path.read_text(encoding='utf-8').splitlines() if line.startswith('#')] if path.is_file() else []
+    wide = [max((len(cells[at]) for cells in ([edit, *found[edit].split()] for edit in known)), default=0) for at in (0, 1)]
+    lines = [f'{edit:<{wide[0]}} {found[edit].split()[0]:<{wide[1]}} {found[edit].split()[1]}' for edit in known]
+    path.write_text('\n'.join([*head, *lines, '']), encoding='utf-8')
+    missing = sorted(set(edits) - set(known))
+    print(f'edits: {len(known)} of {len(edits)} written' + (f'; not refused at a fault with a name: {", ".join(missing)}' if missing else ''))
+    return 1 if missing else 0
+
+
+def main(path, crates, log, is_to_write=False):
+    path, crates, log = map(pathlib.Path, (path, crates, log))
+    edits = {f'{edit.parts[-3]}/{edit.stem}' for edit in crates.glob('*/must-fail/*.edit')}
+    if not log.is_file():
+        print(f'edits: there is no log {log}: .ci/run leaves it, or `rt must-fail > {log}` makes it')
+        return 1
+    found = faults(crates, log)
+    if is_to_write:
+        return write(path, sorted(edits), found)
+    expected = expectations(path)
     wrong = [f'{edit}: listed, and there is no such edit' for edit in sorted(expected.keys() - edits)]
     wrong += [f'{edit}: not listed' for edit in sorted(edits - expected.keys())]
     for edit in sorted(edits & expected.keys()):
-        found = first_fault(edit, pathlib.Path(logs))
-        if found != expected[edit]:
-            wrong.append(f'{edit}: expected {expected[edit]}, found {found}')
+        if found.get(edit) != expected[edit]:
+            wrong.append(f'{edit}: expected {expected[edit]}, found {found.get(edit, "nothing in the log")}')
     print('\n'.join(wrong + [f'edits: {len(edits)}, {len(wrong)} faults']))
     return 1 if wrong or not edits else 0
 
 
-sys.exit(main(*sys.argv[1:]))
+if __name__ == '__main__':
+    sys.exit(main(*sys.argv[2:], True) if sys.argv[1] == '--write' else main(*sys.argv[1:]))

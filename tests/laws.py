@@ -1,7 +1,8 @@
 """laws.py FOLDER [PAGE..]: what the proofs under FOLDER say twice, or for nobody.
 
 - an import that its file does not use;
-- a law (a name with a type, in a file of laws) that nothing cites: no other declaration, and no PAGE, by its name or by its whole file;
+- a law (a name with a type, in a file of laws) that nothing cites: no other declaration, no tactic(..) of a function, and no PAGE, by its name or by its
+  whole file;
 - two laws that say the same, but for the names of their variables.
 
 It goes by names and lines, as the files are laid out by `rt fmt`. It prints what it found, and ends with 1 if that is anything.
@@ -11,13 +12,19 @@ import re
 import sys
 from collections import Counter, defaultdict
 
-WORDS = re.compile(r"[\s(){}\[\],;.:«»⌜⌝]+")
+WORDS = re.compile(r"[\s(){}\[\],;.:«»]+")
 IMPORT = re.compile(r'^(?:pub )?(?:ghost )?use ([^\s{;]+)(?:\.\{([^}]*)\}| as (\S+?))?;?$', re.M)
+# What a function hands to the tactics, as in #[tactic(auto, using(Rattle.number.proofs.BlockLaws.size_pos))].
+TACTIC = re.compile(r'^\s*#!?\[tactic\(([^\]]*)\)\]', re.M)
+# The files that answer a function's goals, whose names the check itself asks for.
+OF_A_FUNCTION = ('/Proof.antt', '/Invariants.antt', '/Answers.antt')
 LAW = re.compile(r'^((?:  )*)(?:abbrev |unfoldable )?(?:pub )?([^\s:({]+) : (.*)$')
 
 
 def read(folder):
-    for root, _, names in sorted(os.walk(folder)):
+    """The files, but for what the check left in a crate's out/."""
+    for root, folders, names in os.walk(folder):
+        folders[:] = sorted(name for name in folders if name != 'out')
         for name in sorted(names):
             if name.endswith(('.antt', '.rt')):
                 path = os.path.join(root, name)
@@ -43,7 +50,7 @@ def words(text):
 
 def uses(found, name):
     """How often a name stands there; of an operator, as often as all its parts do."""
-    parts = [part for part in name.split('_') if part] if name.startswith('_') or name.endswith('_') else [name]
+    parts = [part for part in name.split('◌') if part]
     return found[name] or min(found[part] for part in parts)
 
 
@@ -110,6 +117,9 @@ def main(folder, pages):
     cited = ''.join(open(page, encoding='utf-8').read() for page in pages)
     faults, abroad, said = [], defaultdict(int), defaultdict(list)
     for path, text in texts.items():
+        for given in TACTIC.findall(text):
+            for module, name in re.findall(r'(\w+)\.([^\s.,()]+)(?=[\s,)]|$)', given):
+                abroad[module, name] += 1
         for module, there, here in imports(path, text):
             if there is None:
                 if path.endswith('.antt') and not uses(counts[path], here) and f'{here}.' not in bodies[path]:
@@ -118,11 +128,11 @@ def main(folder, pages):
                     abroad[module, match.group(1)] += 1
                 continue
             abroad[module, there] += uses(counts[path], here)
-            ghost = path.endswith('.antt') or re.search(r'(?m)^ghost use .*[{ ,]' + re.escape(there) + r'\b', text)
+            ghost = path.endswith('.antt') or re.search(r'(?m)^ghost use .*[{ ,]' + re.escape(there) + r'(?=[,} ])', text)
             if ghost and not uses(counts[path], here):
                 faults.append(f'{path}: imports {there} for nothing')
     for path in texts:
-        if not path.endswith('.antt') or '/proofs/' not in path or path.endswith('/Proof.antt'):
+        if not path.endswith('.antt') or '/proofs/' not in path or path.endswith(OF_A_FUNCTION):
             continue
         module, lines = os.path.basename(path)[:-len('.antt')], bodies[path].split('\n')
         for number, indent, name, statement in laws(path, bodies[path]):

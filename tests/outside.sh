@@ -2,7 +2,7 @@
 # The independent implementation: its own tests, then random cases against the proved library behind its C boundary.
 set -eu
 cd "$(dirname "$0")/.."
-if ! grep -q '^gateway:' crates.txt; then
+if ! grep -q '^gateway staticlib:' crates.txt; then
   echo 'outside: crates.txt has no gateway, so there is no library to compare with'
   exit 1
 fi

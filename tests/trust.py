@@ -2,11 +2,15 @@
 
 Usage: trust.py PAGE [BASE ALL]. From the names that the contracts of the public calls import, and from every closed statement that a function of any
 crate ensures, every definition that they rest on is followed, through the imports of the specs. The page's first list has six parts: the files of specs of the base, of the requests, of the C boundary and of 01's examples, the files of
-Rattle that declare types which the definitions are over, and the modules of the kit. What is reached must be listed, and what is listed must be reached;
+Rattle that declare types which the definitions are over, and the modules of the kit: those that declare the names, whatever module they are passed on
+by. What is reached must be listed, and what is listed must be reached;
 each part of specs says how many lines of definitions it has, without imports and comments. Whatever 01's calls rest on must be listed among the base;
 its lines, with those that its statements add, may be at most BASE (1,200), and all together at most ALL (2,400)."""
+import functools
 import glob
+import os
 import re
+import subprocess
 import sys
 
 # The public calls.
@@ -14,7 +18,7 @@ PUBLIC = ['crates/container/src/reading.rt', 'crates/container/src/sessions.rt',
           'crates/signing/src/digests.rt', 'crates/blank/src/making.rt', 'crates/gateway/src/lib.rt']
 
 # A closed statement that a function ensures: it speaks of no argument and no result.
-CLOSED = re.compile(r'ensures \{ λ _\. ⌜ (\w+) ⌝ \}')
+CLOSED = re.compile(r'^ +ensures(?: \w+)? \{ (?!result\b)(\w+) \}', re.M)
 
 # 01's calls, and the statements on them. The statements speak of every call that there is, so that of them only what lies in the base's files counts.
 CALLS = {
@@ -26,13 +30,66 @@ STATEMENTS = {'crates/history/src/lib.rt': ['demand3', 'read_back']}
 SPECS = ['Of the base', 'Of the requests', 'Of the C boundary', "Of 01's examples"]
 TYPES, KIT = 'The types', "The kit's"
 
-IMPORT = re.compile(r'^\s*(?:ghost )?use ([^\s{]+?)\.?(?:\{([^}]*)\}| as (\w+))', re.M)
-OURS = re.compile(r'Rattle·(\w+?)(?:·specs)?\.specs\.(\w+)$')
-DECLARED = re.compile(r'Rattle·(\w+?)(?:·specs)?\.specs\.declared\.(?:\w+\.)*?(\w+)(?:\.the-variants)?$')
+# An import of names, of a module by another name, or of a module by its own.
+IMPORT = re.compile(r'^(?:ghost )?use ([^\s{;:]+?)\.?(?:\{([^}]*)\}| as (\w+)|(?=;?$))', re.M)
+CODE = re.compile(r'^(?:ghost )?use [^;]*;', re.M)
+OURS = re.compile(r'Rattle\.(\w+)\.specs\.(\w+)$')
+DECLARED = re.compile(r'Rattle\.(\w+)\.specs\.declared\.(?:\w+\.)*?(\w+)(?:\.TheVariants)?$')
 ITEM = re.compile(r'^(?:unfoldable |abbrev )?(?:pub )?(?:(?:record|data) (\S+)|((?:[^\s(){}:]+ )+):)(?=\s|$)')
 CASE = re.compile(r'^  ((?:[^\s(){}:]+ )+):')
 # A word that nothing qualifies: in `opening.Refused` that is `opening`, and in `st .image` it is `st`.
 WORD = re.compile(r'(?<![^\s(){}\[\];,])[^\s(){}\[\];,.]+')
+
+
+# ---- the kit's modules, of which many pass on what others declare
+
+PASSED = re.compile(r'^(?:unfoldable )?pub use ([^\s{]+?)(?:\.\{([^}]*)\}| as (\w+))?$', re.M)
+
+
+@functools.cache
+def crates():
+    """The crates of the project."""
+    return {line.partition('#')[0].partition(':')[0].split()[0] for line in open('crates.txt', encoding='utf-8') if line.partition('#')[0].strip()}
+
+
+@functools.cache
+def kit():
+    """The folder of the kit's sources."""
+    guide = subprocess.run(['rt', 'doc'], capture_output=True, text=True, check=True).stdout.strip()
+    return os.path.join(os.path.dirname(guide), 'rattle')
+
+
+@functools.cache
+def passes_on(path):
+    """What a file of the kit passes on: of a name the module that it comes from and its name there; of a module, the module and nothing."""
+    found = {}
+    for module, listed, alias in PASSED.findall(open(path, encoding='utf-8').read()):
+        if not listed:
+            found[alias or module.rpartition('.')[2]] = (module, None)
+        for name in filter(None, re.split(r',\s*', listed)):
+            own, _, other = name.partition(' as ')
+            found[other or own] = (module, own)
+    return found
+
+
+def declaring(module, name=None):
+    """The module of the kit that declares what a module gives under a name, or that a module is."""
+    words = module.split('.')
+    if words[0] != 'Rattle' or words[1] in crates():
+        return module
+    folder = os.path.join(kit(), words[1], words[2])
+    path = os.path.join(folder, 'Lib.antt')
+    for at, word in enumerate(words[3:], 3):
+        folder = os.path.join(folder, word)
+        if os.path.isfile(f'{folder}.antt'):
+            path = f'{folder}.antt'
+        elif os.path.isfile(path) and word in passes_on(path):
+            return declaring('.'.join([passes_on(path)[word][0], *words[at + 1:]]), name)
+        else:
+            return module
+    if name in passes_on(path):
+        return declaring(*passes_on(path)[name])
+    return module
 
 
 class Imports:
@@ -42,24 +99,29 @@ class Imports:
         self.names, self.modules, self.types, self.kit = {}, {}, {}, {}
         for module, listed, alias in IMPORT.findall(text):
             ours, declared = OURS.match(module), DECLARED.match(module)
-            for name in [alias] if alias else listed.split(', '):
+            is_ours = module.startswith('Rattle.') and module.split('.')[1] in crates()
+            for name in re.split(r',\s*', listed.strip().rstrip(',')) if listed else [alias or module.rpartition('.')[2]]:
                 own, _, other = name.partition(' as ')
                 word = (other or own).strip()
-                if declared:
+                if is_ours and declared:
                     self.types[word] = declared.groups()
-                elif ours and alias:
+                elif is_ours and ours and not listed:
                     self.modules[word] = f'crates/{ours[1]}/specs/{ours[2]}.antt'
-                elif ours:
+                elif is_ours and ours:
                     self.names[word] = (f'crates/{ours[1]}/specs/{ours[2]}.antt', own.strip())
-                elif not module.startswith('Rattle·'):
-                    self.kit[word] = module
+                elif not is_ours:
+                    self.kit[word] = declaring(module, own.strip() if listed else None)
+                else:
+                    raise SystemExit(f'an import that is not understood: {module}')
 
     def used(self, text):
         """The definitions of other files, the types and the modules of the kit that a text uses."""
         words = set(WORD.findall(text))
 
         def occurs(name):
-            return name in words or name.strip('_') in words or ('_' in name and name.strip('_') in text)
+            """Whether a name is used; of an operator, whether all its parts are."""
+            parts = [part for part in name.split('◌') if part]
+            return name in words or '◌' in name and (words.issuperset(parts) or all(part in text for part in parts))
 
         definitions = [place for name, place in self.names.items() if occurs(name)]
         for alias, path in self.modules.items():
@@ -110,7 +172,7 @@ class Reached:
     def from_contracts(self, path, functions=None):
         """What the contracts of a file of Rattle, or of some of its functions, rest on."""
         text = open(path, encoding='utf-8').read()
-        words = re.sub(r'^(ghost )?use .*$', '', text, flags=re.M)
+        words = CODE.sub('', text)
         if functions is not None:
             words = '\n'.join(re.search(rf'^pub fn {name}\b.*?^\{{', words, re.M | re.S)[0] for name in functions)
         definitions, types, kit = Imports(text).used(words)

@@ -1,82 +1,62 @@
-"""built.py ROOT: the MIR that the rules read is that of the proved libraries in target/rlib, which is what is compiled. Every function of theirs is
-compared, with its locals and its statements in their order; the two are written in two notations, so that both are brought to plain words first."""
-import json
+"""built.py ROOT: the MIR that the rules read is that of the sources below ROOT, as the proved libraries have it. Every function that a wrong program of
+edits.py changes is compiled anew from the sources as they stand, and compared with the library's; so what is found in a wrong program is its own. (That
+the libraries are of these sources, all of them, tests/libraries.py sees to.)"""
+import multiprocessing
+import os
 import pathlib
 import sys
 
-from mir import items, library_crates, mir_text, read_term
-
-# Words that one notation has and the other has not.
-BRACKETS = {'lnil', 'lcons', 'tnil', 'tcons', 'place', 'local', 'steps', 'direct', 'fnref', 'pair', 'lenlit', 'lit', 'width', 'value', 'ty', 'home',
-            'name', 'lifetimes'}
-OTHER_WORDS = {'rvopd': 'opd', 'tyint': 'int', 'tybool': 'bool', 'typtr': 'ptr', 'tyref': 'ref', 'tyarray': 'array', 'tyunit': 'unit',
-               'tystruct': 'struct', 'tynamed': 'named'}
+from edits import EDITS
+from mir import Refused, Unknown, functions_of
+from libraries import mir_file
+from source import compiled, functions_in, path_of
 
 
-def words(*parts):
-    """The words of a term, or of what JSON has, without brackets."""
-    found = []
-    for part in parts:
-        if isinstance(part, dict):
-            found += [word for pair in part.items() for word in words(*pair)]
-        elif isinstance(part, list):
-            found += words(*part)
-        else:
-            word = str(part).lower()
-            found += [OTHER_WORDS.get(word, word)] if word not in BRACKETS else []
-    return found
+def changed_by_edits(root):
+    """By crate, the functions that the edits change, as far as the sources have them."""
+    found = {}
+    for _, _, files in EDITS:
+        for path, pairs in files.items():
+            if not path.endswith('.rt'):
+                continue
+            inside = pathlib.Path(path)
+            before = after = (root / 'crates' / path).read_text()
+            for old, new in pairs:
+                after = after.replace(old, new)
+            was, now = functions_in(before), functions_in(after)
+            module = path_of(pathlib.Path(*inside.parts[2:]))
+            names = {f'{module}::{name}' if module else name for name in was if now.get(name) != was[name]}
+            found.setdefault(inside.parts[0], set()).update(names)
+    return {crate: sorted(names) for crate, names in found.items() if names}
 
 
-def printed_statements(body):
-    """A body as a list: of an assignment or a call all its words, of all else its first one, in the order of the text."""
-    if isinstance(body, str):
-        return [[body]]
-    if body[0] in ('assign', 'call'):
-        return [words(body)]
-    inner = body[1:]
-    if body[0] == 'if':
-        inner = body[2:]
-    elif body[0] == 'switch':
-        inner, arms = [], body[2]
-        while arms[0] == 'arm':
-            inner, arms = [*inner, arms[2]], arms[3]
-        inner += arms[1:] if arms[0] == 'default' else []
-    elif body[0] == 'exit':
-        inner = []
-    return [[body[0]]] + [one for part in inner for one in printed_statements(part)]
+def plain(function):
+    """What is compared of a function. (Of a constant that is lent, which bytes it has is not read.)"""
+    body = [{'LendStatic': [*part['LendStatic'][:2], 'Unread']} if isinstance(part, dict) and 'LendStatic' in part else part for part in function['body']]
+    types = sorted((one['name'], str(one['shape'])) for one in function['types'])
+    return function['params'], function['locals'], types, body
 
 
-def built_statements(body):
-    """The same of a body that JSON has as one row."""
-    found = []
-    for one in body:
-        head = one if isinstance(one, str) else next(iter(one))
-        found.append(words(one) if head in ('Assign', 'Call') else [head.lower()])
-    return found
-
-
-def compare(root):
-    """The functions that differ, or that only one of the two has, and how many were compared."""
-    crates, _ = library_crates(root)
-    printed = {one[1]: one[2] for one in items(read_term(mir_text(root))[1]) if one[1].split('::')[0] in crates}
-    different, compared = set(), set()
-    for library in sorted(root.glob('target/rlib/*.rlib/toolchain/mir.json')):
-        for name, built in json.loads(library.read_text()):
-            compared.add(name)
-            item = printed.get(name)
-            same = item and int(item[3]) == built['params'] and words(items(item[4])) == words(built['locals'])
-            if not same or printed_statements(item[5]) != built_statements(built['body']):
-                different.add(name)
-    return sorted(different | (set(printed) - compared)), len(compared)
+def compare(root, folder, crate, names):
+    """The functions of a crate that the sources in a folder have otherwise than the library."""
+    try:
+        made = compiled(root, folder, crate, names, set())
+    except (Refused, Unknown) as why:
+        return [f'{crate}: {why}']
+    built = functions_of(mir_file(root, crate))
+    return sorted(name for name, function in made.items() if name not in built or plain(function) != plain(built[name]))
 
 
 def main(root):
-    different, compared = compare(root)
+    crates = changed_by_edits(root)
+    with multiprocessing.Pool(int(os.environ.get('JOBS', '2'))) as pool:
+        different = sum(pool.starmap(compare, [(root, root, crate, names) for crate, names in crates.items()], 1), [])
     for name in different:
-        print(f'stores: {name} is another function, or none, in target/rlib: prove it first (rt check)')
+        print(f'stores: {name} is another function, or none, in the proved library')
+    compared = sum(map(len, crates.values()))
     if not different:
-        print(f'stores: {compared} functions are in the proved libraries as they were read')
-    return bool(different)
+        print(f'stores: {compared} functions, compiled anew, are in the proved libraries as they are in the sources')
+    return bool(different) or not compared
 
 
 if __name__ == '__main__':

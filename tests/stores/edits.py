@@ -75,7 +75,7 @@ OTHER_STORES = [
     ('a type by another name', BY_HELPER, with_helper(
         ["type Lent<'a> = &'a mut [u8];", '', 'fn helper(bytes: Lent) {', '    bytes[0] = 0;', '}'], 'helper(image);')),
     ('a struct that holds the image', BY_HELPER, with_helper(
-        ["struct Held<'a> {", "    bytes: &'a mut [u8],", '}', '', 'fn helper(held: Held) {', '    held.bytes[0] = 0;', '}'],
+        ['#[derive(Drop)]', "struct Held<'a> {", "    bytes: &'a mut [u8],", '}', '', 'fn helper(held: Held) {', '    held.bytes[0] = 0;', '}'],
         'helper(Held { bytes: image });')),
     ('a reference to the image', BY_HELPER, with_helper(
         ['fn helper(held: &mut &mut [u8]) {', '    held[0] = 0;', '}'], 'let mut lent = &mut image[..];', 'helper(&mut lent);')),
@@ -83,12 +83,12 @@ OTHER_STORES = [
     ('a reference that is kept behind a pointer', 'keeps a reference to the image behind a pointer', with_helper(
         ["fn helper<'a>(held: &mut &'a mut [u8], bytes: &'a mut [u8]) {", '    *held = bytes;', '}'],
         'let mut none = [0u8; 1];', 'let mut lent = &mut none[..];', 'helper(&mut lent, image);', 'lent[0] = 0;')),
-    ('a function of a library of the kit', 'begin: the image is stored to by bytes::elem::swap', {
-        '../crates.txt': [('steps: number', 'steps: bytes number')], **in_begin('bytes::reverse(image, 0, 2);')}),
+    ('a function of a library of the kit', 'begin: the image is stored to by core::str::ascii::lowercase_in_place', in_begin(
+        'image.make_ascii_lowercase();')),
     ('an image by another name', 'begin: the image is stored to by container::sessions::begin', {SESSIONS: [
         ('pub fn begin(image: &mut [u8]', 'pub fn begin(target: &mut [u8]'),
-        ('(now (image .exit)) (calls.begin (now (image .entry)) session) ⌝ }\n{\n    let answer = open(image);',
-         '(now (target .exit)) (calls.begin (now (target .entry)) session) ⌝ }\n{\n    let answer = open(target);'),
+        ('image.new (calls.begin image.old session) }\n{\n    let answer = open(image);',
+         'target.new (calls.begin target.old session) }\n{\n    let answer = open(target);'),
         ('    let header = header_of(image);\n' + BEGUN,
          lines('let header = header_of(target);', 'stage_image(space_of(c), c, target);', 'target[0] = 0;'))]}),
     ('a store at the boundary', 'begin: the image is stored to by gateway::teplovist_begin', {
@@ -96,11 +96,11 @@ OTHER_STORES = [
     ('a call that nobody knows', 'a public call that is lent other parameters than those known', {
         SESSIONS: [(NEW, 'pub fn touch(image: &mut [u8]) {\n    image[0] = 0;\n}\n\n' + NEW)]}),
     ('a weaker demand on a place', 'stores/src/staging.rt: does not have', {
-        STAGING: [('(Free space (now image) i) × (i < length (now image))', '(i < length (now image))')]}),
+        STAGING: [('(Free space image.old i) × (i < length image.old)', '(i < length image.old)')]}),
     ('a weaker demand on a space', 'stores/src/staging.rt: does not have', {
-        STAGING: [('(OwnSpace space (now image)) × (Free space (now image) i)', '(Free space (now image) i)')]}),
+        STAGING: [('(OwnSpace space image.old) × (Free space image.old i)', '(Free space image.old i)')]}),
     ('another rule of whose a space is', 'stores/src/staging.rt: has OwnSpace from', {
-        STAGING: [('Rattle·stores·specs.specs.Rules.{OwnSpace, ', 'Rattle·dpfs.specs.Free.{OwnSpace};\nghost use Rattle·stores·specs.specs.Rules.{')]}),
+        STAGING: [('Rattle.stores.specs.Rules.{OwnSpace, ', 'Rattle.dpfs.specs.Free.{OwnSpace};\nghost use Rattle.stores.specs.Rules.{')]}),
     ('another rule of what is free', 'stores/src/staging.rt: has Free from', {STAGING: [('specs.Free.{Free}', 'specs.Rules.{Free}')]}),
     ('a store that sometimes goes elsewhere', 'stores::staging::store: is not, statement by statement', {STAGING: [(
         lines('image[at] = value;'),
@@ -123,7 +123,7 @@ OTHER_SPACES = [
         ['fn helper(size: &mut u64) {', '    *size = 0x200;', '}'],
         'let mut wide = space;', 'helper(&mut wide.table.size);', 'store(wide, image, 0, 0);')),
     ('a space in another struct', 'changes a part of a dpfs::Space', with_helper(
-        ['struct Job {', '    space: Space,', '    at: u64,', '}', '', 'fn helper(at: u64, space: Space) -> Job {',
+        ['#[derive(Drop)]', 'struct Job {', '    space: Space,', '    at: u64,', '}', '', 'fn helper(at: u64, space: Space) -> Job {',
          '    let mut job = Job { space, at };', '    job.space.table.offset = at;', '    job', '}'],
         'let job = helper(0, space);', 'store(job.space, image, job.at, 0);')),
     ('a space that a function changes', 'has a reference to a dpfs::Space', with_helper(
@@ -143,17 +143,17 @@ OTHER_SPACES = [
                'let Opened::Valid(d) = other else {', '    return refused(session, Refusal::Stale);', '};',
                'stores::staging::store(space_of(d), image, 0, 0);')]}),
     ('a container of a part of the image', 'container::sessions::begin: is to open its image, whole and once', {SESSIONS: [(
-        'calls.begin (now (image .entry)) session) ⌝ }\n{\n    let answer = open(image);',
-        'calls.begin (now (image .entry)) session) ⌝ }\n{\n    let answer = open(&image[1..]);')]}),
+        'calls.begin image.old session) }\n{\n    let answer = open(image);',
+        'calls.begin image.old session) }\n{\n    let answer = open(&image[1..]);')]}),
     ('a session entered on a part of the image', 'container::sessions::write: is to open its image, whole and once', {SESSIONS: [(
-        'partition place (now (bytes .entry))) ⌝ }\n{\n    let answer = enter(image, session);',
-        'partition place (now (bytes .entry))) ⌝ }\n{\n    let answer = enter(&image[1..], session);')]}),
+        'partition place bytes.now) }\n{\n    let answer = enter(image, session);',
+        'partition place bytes.now) }\n{\n    let answer = enter(&image[1..], session);')]}),
     ('an entering that opens a part of the image', 'steps::entering::enter: is to open its image, whole and once', {ENTERING: [(
-        'entered (now (image .entry)) session ⌝ }\n{\n    let answer = open(image);',
-        'entered (now (image .entry)) session ⌝ }\n{\n    let answer = open(&image[1..]);')]}),
+        'entered image.now session }\n{\n    let answer = open(image);',
+        'entered image.now session }\n{\n    let answer = open(&image[1..]);')]}),
     ('a step back that opens twice', 'steps::entering::enter_back: is to open its image, whole and once', {ENTERING: [(
-        'enteredBack (now (image .entry)) session ⌝ }\n{\n    let answer = open(image);',
-        'enteredBack (now (image .entry)) session ⌝ }\n{\n    let _first = open(image);\n    let answer = open(image);')]}),
+        'entered_back image.now session }\n{\n    let answer = open(image);',
+        'entered_back image.now session }\n{\n    let _first = open(image);\n    let answer = open(image);')]}),
 ]
 
 ONE_HEADER = 'commit: commits::store_header is to have the image from one call'
@@ -205,13 +205,13 @@ OTHER_PLACES = [
     ('a store in place by another function of a write', 'write: update::store_outside is called by', {
         **STORE_OUTSIDE_IS_PUBLIC, SESSIONS: [before(lines('write_partition(image, session, c, partition, place, bytes)'), *ONE_BYTE_OUTSIDE)]}),
     ('a weaker demand on a place in place', 'update/src/lib.rt: does not have', {
-        UPDATE: [('(InPlace view x n i) × (i < length (now image))', '(i < length (now image))')]}),
+        UPDATE: [('(InPlace view x n i) × (i < length image.old)', '(i < length image.old)')]}),
     ('a weaker demand on a view', 'update/src/lib.rt: does not have', {
-        UPDATE: [('(OwnView view (now image)) × (x + n ≤ view .level4 .size) × ', '(x + n ≤ view .level4 .size) × ')]}),
+        UPDATE: [('(OwnView view image.old) × (x + n ≤ view.level4.size) × ', '(x + n ≤ view.level4.size) × ')]}),
     ('another rule of what is in place', 'update/src/lib.rt: has InPlace from', {
-        UPDATE: [('ghost use Rattle·update·specs.specs.Rules.{OwnView, StagedIn, WriteRules, EndsRules, InPlace};',
-                  'ghost use Rattle·update·specs.specs.Rules.{OwnView, StagedIn, WriteRules, EndsRules};\n'
-                  'ghost use Rattle·update·specs.specs.Staged.{InPlace};')]}),
+        UPDATE: [('ghost use Rattle.update.specs.Rules.{OwnView, StagedIn, WriteRules, EndsRules, InPlace};',
+                  'ghost use Rattle.update.specs.Rules.{OwnView, StagedIn, WriteRules, EndsRules};\n'
+                  'ghost use Rattle.update.specs.Staged.{InPlace};')]}),
     ('bytes put twice, first elsewhere', 'write: update::put_level is called by', {
         UPDATE: [before(PUT, 'put_level(space, view, image, 4, 0, values);')]}),
     ('bytes put elsewhere', f'write: update::write_blocks {NOT_AS_THEY_ARE}', {
@@ -270,6 +270,7 @@ OTHER_REVERTS = [
 
 OTHER_BLANKS = [
     ('a begin that makes a blank image', 'container::sessions::begin reaches blank::', {
+        '../crates.txt': [('container: number', 'container: blank number')],
         SESSIONS: [before(BEGUN, 'blank::making::make_blank(image, layout::Kind::Disa, 1);')]}),
     ('a read that makes a blank image of a copy', 'gateway::teplovist_verified reaches blank::', {GATEWAY: [before(
         lines('verdict_answer(reading::verified(image, partition, block))'), 'let mut copy = [0u8; 0x6000];',
@@ -282,16 +283,20 @@ EDITS = OTHER_STORES + OTHER_SPACES + OTHER_PLACES + OTHER_COMMITS + OTHER_REVER
 
 # Forms of MIR, and what is put for the first of each: nothing that the compiler writes today, or what could hide a store.
 FORMS = [
-    ('(op2 offset ', '(op2 withAddr '),
-    ('(op2 (add unsigned) ', '(op2 ptrLt '),
-    ('(op1 not ', '(op1 ptrAddr '),
-    ('(rvOpd ', '(volatile '),
-    ('(int 64 ', '(ptrConst '),
-    ('(direct ', '(indirect '),
-    ('(deref ', '(follow '),
-    ('(loop ', '(again '),
-    ('noDefault', '(otherwise skip)'),
-    ('(tyArray ', '(tyRow '),
-    ('(fnRef "number::runs::copy_into")', '(fnRef "number::runs::nobody")'),
-    ('(fn-def "stores::staging::copy_within"', '(fn-def "stores::staging::store"'),
+    ('{"Op2": ["Offset", ', '{"Op2": ["WithAddr", '),
+    ('{"Op2": [{"Add": "Unsigned"}, ', '{"Op2": ["PtrLt", '),
+    ('{"Op1": ["Not", ', '{"Op1": ["PtrAddr", '),
+    ('{"Opd": ', '{"Volatile": '),
+    ('{"Int": {"width": 64, ', '{"PtrConst": {"width": 64, '),
+    ('{"Fn": ', '{"Held": '),
+    ('{"Deref": ', '{"Follow": '),
+    ('"Loop"', '"Again"'),
+    ('"Return"', '"Fork"'),
+    (', [[0], [1]], false]}', ', [[0], [1]], true]}'),
+    ('{"Array": ', '{"Row": '),
+    ('{"Fields": ', '{"Union": '),
+    ('{"Fn": ["number::runs::copy_into", ', '{"Fn": ["number::runs::nobody", '),
+    ('["stores::staging::copy_within", {', '["stores::staging::store", {'),
+    ('"generics": {"types": [], ', '"generics": {"types": ["Type"], '),
+    ('{"Assign": [', '{"Foreign": ['),
 ]

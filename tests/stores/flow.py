@@ -125,10 +125,10 @@ def whole_slices(function, parameter):
         return place and place.local in slices and str(place) == f'(*_{place.local}.0)'
 
     def whole(one):
-        if not isinstance(one, Assign) or one.value.form not in ('aggregate', 'rvOpd'):
+        if not isinstance(one, Assign) or one.value.form not in ('aggregate', 'operand'):
             return False
         places = one.value.places
-        if one.value.form == 'rvOpd':
+        if one.value.form == 'operand':
             return len(places) == 1 and places[0].local in slices and not places[0].steps
         if len(places) != 2 or len(one.value.operands) != 2:
             return False

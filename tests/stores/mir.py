@@ -1,12 +1,13 @@
-"""The compiler's MIR, read into functions, types and statements. What a reader of MIR must know stands in the kit's logic/Mir/Syntax.antt; a form
-that is not understood here raises Unknown, so that nothing is passed over."""
+"""The compiler's MIR, read into functions, types and statements: of a proved library its rlib's toolchain/mir.json, a list of functions by their names,
+each with the types that it uses, its locals and its body. What a reader of MIR must know stands in the kit's rattle/logic/Mir/Syntax.antt; a form that is
+not understood here raises Unknown, so that nothing is passed over."""
 import functools
-import os
+import json
 import pathlib
-import re
-import subprocess
 import sys
-import tempfile
+
+sys.path.append(str(pathlib.Path(__file__).resolve().parent.parent))
+from libraries import kit, libraries, mir_file  # noqa: E402
 
 sys.setrecursionlimit(100000)
 
@@ -19,96 +20,66 @@ class Refused(Exception):
     """The compiler refused the source."""
 
 
-# ---- the crates
+# ---- forms: a word, or one word with what it has
 
 
-def library_crates(root):
-    """The crates of crates.txt that are libraries, and the kit's libraries that they name."""
-    crates, named = [], set()
-    for line in (root / 'crates.txt').read_text().splitlines():
-        name, _, needs = line.partition('#')[0].partition(':')
-        if (root / 'crates' / name.strip() / 'src' / 'lib.rt').is_file():
-            crates.append(name.strip())
-            named.update(needs.split())
-    return crates, sorted(named - set(crates))
+def form(term):
+    """The word of a form, and what it has."""
+    if isinstance(term, str):
+        return term, None
+    if isinstance(term, dict) and len(term) == 1:
+        return next(iter(term.items()))
+    raise Unknown(f'no form: {term}')
 
 
-@functools.cache
-def kit():
-    """The kit's folder, and its program that prints MIR."""
-    guide = subprocess.run(['rt', 'doc'], capture_output=True, text=True, check=True).stdout.strip()
-    folder = pathlib.Path(guide).parent.parent
-    return folder, folder / 'on' / os.uname().machine / 'bin' / 'rattle-print-mir'
+def words(term):
+    """A form in plain words, as `lt unsigned`."""
+    name, has = form(term)
+    return ' '.join([camel(name), *([] if has is None else [has.lower() if isinstance(has, str) else json.dumps(has)])])
 
 
-def mir_text(root):
-    """The MIR of every library crate below a folder, every library given as source: nothing is proved, and no target/ is read."""
-    folder_of_kit, print_mir = kit()
-    crates, of_kit = library_crates(root)
-    words = []
-    for name in crates:
-        words += ['--lib', f'{name}={root}/crates/{name}/src/lib.rt']
-    for name in ['std', *of_kit]:
-        words += ['--lib', f'{name}={folder_of_kit}/libs/{name}/src/lib.rt']
-    with tempfile.TemporaryDirectory() as folder:
-        main = pathlib.Path(folder) / 'main.rt'
-        main.write_text('fn main() {}\n')
-        run = subprocess.run([print_mir, main, '--crate-name', 'no_program', *words], capture_output=True, text=True)
-    if run.returncode:
-        raise Refused(run.stderr.strip())
-    return run.stdout
+def camel(name):
+    return name[0].lower() + name[1:]
 
 
-# ---- terms
+# ---- types: ('plain',), ('pointer',), ('param', number), ('reference', mutable, type), ('array', type), ('struct', name, types), ('named', name, types)
+
+PLAIN = {'Bool', 'Unit', 'Int', 'Float', 'Const', 'Vector'}
 
 
-def read_term(text):
-    """The one application that a text is, as nested lists of words."""
-    stack = [[]]
-    for token in re.findall(r'"[^"]*"|[()]|[^\s()"]+', text):
-        if token == '(':
-            stack.append([])
-        elif token == ')':
-            inner = stack.pop()
-            stack[-1].append(inner)
-        else:
-            stack[-1].append(token.strip('"') if token[0] == '"' else token)
-    if len(stack) != 1:
-        raise Unknown('brackets that do not match')
-    return stack[0]
-
-
-def items(term):
-    """A list of the term language as a list."""
-    found = []
-    while term not in ('lnil', 'tnil', 'ttnil'):
-        if term[0] not in ('lcons', 'tcons', 'ttcons') or len(term) != 3:
-            raise Unknown(f'no list: {term}')
-        found.append(term[1])
-        term = term[2]
-    return found
-
-
-# ---- types: ('plain',), ('pointer',), ('reference', mutable, type), ('array', type), ('struct', name, types), ('named', name)
+def named(name):
+    """A declared type that has no parameters."""
+    return ('named', name, ())
 
 
 def read_type(term):
-    if term in ('tyBool', 'tyUnit'):
+    name, has = form(term)
+    if name in PLAIN:
         return ('plain',)
-    if term == 'tyPtr':
+    if name == 'Ptr':
         return ('pointer',)
-    head = term[0]
-    if head in ('tyInt', 'tyFloat'):
-        return ('plain',)
-    if head == 'tyRef' and term[2] in ('imm', 'mut'):
-        return ('reference', term[2] == 'mut', read_type(term[3]))
-    if head == 'tyArray':
-        return ('array', read_type(term[1]))
-    if head == 'tyStruct':
-        return ('struct', term[1], tuple(map(read_type, items(term[2]))))
-    if head == 'tyNamed' and term[1][0] == 'pair':
-        return ('named', term[1][1])
+    if name == 'Param':
+        return ('param', has)
+    if name == 'Ref' and has[1] in ('Imm', 'Mut'):
+        return ('reference', has[1] == 'Mut', read_type(has[2]))
+    if name == 'Array':
+        return ('array', read_type(has[0]))
+    if name == 'Struct':
+        return ('struct', has[0], tuple(map(read_type, has[1])))
+    if name == 'Named':
+        return ('named', has[0]['name'], tuple(map(read_type, has[1])))
     raise Unknown(f'a type: {term}')
+
+
+def with_types(kind, given):
+    """A type of a declaration, where these types are given for its parameters."""
+    if kind[0] == 'param':
+        return given[kind[1]]
+    if kind[0] in ('reference', 'array'):
+        return (*kind[:-1], with_types(kind[-1], given))
+    if kind[0] in ('struct', 'named'):
+        return (*kind[:2], tuple(with_types(part, given) for part in kind[2]))
+    return kind
 
 
 class Types:
@@ -117,28 +88,34 @@ class Types:
     def __init__(self):
         self.declared, self.known = {}, {}
 
-    def declare(self, name, term):
-        if term[0] == 'fields':
-            variants, is_struct = [list(map(read_type, items(term[1])))], True
-        elif term[0] == 'variants':
-            variants, is_struct = [list(map(read_type, items(fields))) for fields in items(term[1])], False
+    def declare(self, name, shape):
+        head, has = form(shape)
+        if head == 'Fields':
+            variants, is_struct = [list(map(read_type, has))], True
+        elif head == 'Variants':
+            variants, is_struct = [list(map(read_type, fields)) for fields in has], False
         else:
-            raise Unknown(f'a declaration: {term}')
+            raise Unknown(f'a declaration: {shape}')
         if self.declared.setdefault(name, (variants, is_struct)) != (variants, is_struct):
             raise Unknown(f'{name} is declared in two ways')
 
-    def variants(self, name):
-        if name not in self.declared:
-            raise Unknown(f'the type {name} is not declared')
-        return self.declared[name]
+    def variants(self, kind):
+        if kind[1] not in self.declared:
+            raise Unknown(f'the type {kind[1]} is not declared')
+        variants, is_struct = self.declared[kind[1]]
+        return [[with_types(field, kind[2]) for field in fields] for fields in variants], is_struct
 
     def holds(self, kind, wanted):
-        """Whether a value of a type is, or holds or leads to, one whose type is `wanted`: a type, or the words 'pointer' or 'mutable'."""
+        """Whether a value of a type is, or holds or leads to, one whose type is `wanted`: a type, or the words 'pointer' or 'mutable'. Of a type that a
+        caller chooses, it is taken for granted."""
         if (kind, wanted) not in self.known:
+            self.known[kind, wanted] = False
             self.known[kind, wanted] = self._is(kind, wanted) or any(self.holds(part, wanted) for part in self._parts(kind))
         return self.known[kind, wanted]
 
     def _is(self, kind, wanted):
+        if kind[0] == 'param':
+            return True
         if wanted == 'pointer':
             return kind[0] in ('pointer', 'reference')
         if wanted == 'mutable':
@@ -146,15 +123,13 @@ class Types:
         return kind == wanted
 
     def _parts(self, kind):
-        """The types of what a value is made of, or leads to. The compiler refuses types that reach each other."""
-        if kind[0] == 'reference':
-            return [kind[2]]
-        if kind[0] == 'array':
-            return [kind[1]]
+        """The types of what a value is made of, or leads to."""
+        if kind[0] in ('reference', 'array'):
+            return [kind[-1]]
         if kind[0] == 'struct':
             return kind[2]
         if kind[0] == 'named':
-            return [field for fields in self.variants(kind[1])[0] for field in fields]
+            return [field for fields in self.variants(kind)[0] for field in fields]
         return []
 
     def rows_and_references(self, kind):
@@ -170,109 +145,110 @@ class Types:
 
     def step(self, kind, variant, step):
         """The type after one step from a place, and the variant that the place is then seen as."""
-        if step[0] == 'deref':
-            return read_type(step[1]), None
+        name, has = form(step)
+        if name == 'Deref':
+            return read_type(has), None
         if kind[0] == 'named':
-            variants, is_struct = self.variants(kind[1])
-            if step[0] == 'variant' and not is_struct:
-                return kind, int(step[1])
-            if step[0] == 'field' and is_struct:
-                return variants[0][int(step[1])], None
-            if step[0] == 'field' and variant is not None:
-                return ('plain',) if step[1] == '0' else variants[variant][int(step[1]) - 1], None
-        if kind[0] == 'struct' and step[0] == 'field':
-            return kind[2][int(step[1])], None
+            variants, is_struct = self.variants(kind)
+            if name == 'Variant' and not is_struct:
+                return kind, has
+            if name == 'Field' and is_struct:
+                return variants[0][has], None
+            if name == 'Field' and variant is not None:
+                return ('plain',) if has == 0 else variants[variant][has - 1], None
+        if kind[0] == 'struct' and name == 'Field':
+            return kind[2][has], None
         raise Unknown(f'a step {step} at a value of type {kind}')
 
 
 # ---- functions
 
-BYTE = ['tyInt', '8']
+BYTE = {'Int': 8}
 
 
 class Place:
     def __init__(self, term):
-        if term[0] != 'place' or len(term) != 3:
+        if not isinstance(term, dict) or set(term) != {'local', 'steps'}:
             raise Unknown(f'a place: {term}')
-        self.local = int(term[1])
-        self.steps = items(term[2])
-        if any(step[0] not in ('deref', 'field', 'variant') for step in self.steps):
+        self.local, self.steps = term['local'], term['steps']
+        if any(form(step)[0] not in ('Deref', 'Field', 'Variant') for step in self.steps):
             raise Unknown(f'a place: {term}')
 
     def through(self):
         """Whether the place lies behind a pointer."""
-        return any(step[0] == 'deref' for step in self.steps)
+        return any('Deref' in step for step in self.steps)
 
     def __str__(self):
         text = f'_{self.local}'
-        for step in self.steps:
-            if step[0] == 'deref':
-                text = f'(*{text})' if step[1] == BYTE else f'(*{text} as {step[1]})'
+        for name, has in map(form, self.steps):
+            if name == 'Deref':
+                text = f'(*{text})' if has == BYTE else f'(*{text} as {words(has)})'
             else:
-                text += ('.' if step[0] == 'field' else '#') + step[1]
+                text += ('.' if name == 'Field' else '#') + str(has)
         return text
 
 
-CONSTANTS = {'int', 'intNeg', 'intBig', 'float'}
+CONSTANTS = {'Int', 'Float'}
 
 
 def operand(term):
     """The place that an operand copies, or None for a constant."""
-    if term in ('true', 'false', 'unit') or term[0] in CONSTANTS:
+    name, has = form(term)
+    if term in ('True', 'False', 'Unit') or name in CONSTANTS:
         return None
-    if term[0] == 'copy':
-        return Place(term[1])
+    if name == 'Copy':
+        return Place(has)
     raise Unknown(f'an operand: {term}')
 
 
 def show_operand(term):
-    place = operand(term)
-    return str(place) if place else term if isinstance(term, str) else ' '.join(term[:1] + term[2:])
+    name, has = form(term)
+    if name == 'Copy':
+        return str(Place(has))
+    if name not in CONSTANTS:
+        return camel(name)
+    if 'width' not in has or len(has) != 2:
+        raise Unknown(f'an operand: {term}')
+    return f'{camel(name)} {next(value for key, value in has.items() if key != "width")}'
 
 
-# The operations whose result is a number or a yes or no, whatever they are given.
-PLAIN2 = {'add', 'sub', 'mul', 'div', 'rem', 'and', 'or', 'xor', 'shl', 'shr', 'eq', 'ne', 'lt', 'le'}
-PLAIN2 |= {'floatAdd', 'floatSub', 'floatMul', 'floatDiv', 'floatRem', 'floatEq', 'floatNe', 'floatLt', 'floatLe'}
-PLAIN1 = {'not', 'cast', 'leadingZeros', 'trailingZeros', 'countOnes'}
-PLAIN1 |= {'floatNeg', 'floatToInt', 'intToFloat', 'floatToFloat', 'floatToBits', 'floatFromBits'}
+# The operations whose result is a number, a yes or no, or a vector of these, whatever they are given.
+PLAIN2 = {'Add', 'Sub', 'Mul', 'Div', 'Rem', 'And', 'Or', 'Xor', 'Shl', 'Shr', 'Eq', 'Ne', 'Lt', 'Le', 'WrapAdd', 'WrapSub', 'WrapMul'}
+PLAIN2 |= {'FloatAdd', 'FloatSub', 'FloatMul', 'FloatDiv', 'FloatRem', 'FloatEq', 'FloatNe', 'FloatLt', 'FloatLe'}
+PLAIN1 = {'Not', 'Cast', 'LeadingZeros', 'TrailingZeros', 'CountOnes'}
+PLAIN1 |= {'FloatNeg', 'FloatSqrt', 'FloatToInt', 'IntToFloat', 'FloatToFloat', 'FloatToBits', 'FloatFromBits'}
 
 
 class Value:
     """The right side of an assignment: its form, the places that it copies or points to, its text."""
 
     def __init__(self, term):
-        self.form, self.places, self.pointed = term[0], [], None
-        if self.form == 'rvOpd':
-            operands = [term[1]]
-        elif self.form == 'op2':
-            name = term[1] if isinstance(term[1], str) else term[1][0]
-            if name not in PLAIN2 and name != 'offset':
-                raise Unknown(f'an operation: {term[1]}')
-            self.form = 'offset' if name == 'offset' else 'number'
-            operands = term[2:]
-        elif self.form == 'op1':
-            name = term[1] if isinstance(term[1], str) else term[1][0]
-            if name not in PLAIN1:
-                raise Unknown(f'an operation: {term[1]}')
-            self.form, operands = 'number', term[2:]
-        elif self.form == 'addrOf':
-            self.pointed, operands = Place(term[1]), []
-        elif self.form == 'aggregate':
-            operands = items(term[1])
-        elif self.form == 'repeat':
-            operands = [term[1]]
+        head, has = form(term)
+        self.pointed, name = None, camel(head)
+        if head == 'Opd':
+            self.form, name, operands = 'operand', 'rvOpd', [has]
+        elif head == 'Op2' and (form(has[0])[0] in PLAIN2 or has[0] == 'Offset'):
+            self.form, name, operands = 'offset' if has[0] == 'Offset' else 'number', words(has[0]), has[1:]
+        elif head == 'Op1' and form(has[0])[0] in PLAIN1:
+            self.form, name, operands = 'number', words(has[0]), has[1:]
+        elif head == 'AddrOf':
+            self.form, self.pointed, operands = 'address', Place(has), []
+        elif head == 'Aggregate':
+            self.form, operands = 'aggregate', has
+        elif head == 'Repeat':
+            self.form, operands = 'repeat', has[:1]
+        elif head == 'Static':
+            self.form, operands = 'static', []
         else:
             raise Unknown(f'a value: {term}')
         self.operands = operands
         self.places = [place for place in map(operand, operands) if place]
-        name = term[1] if self.form in ('offset', 'number') else self.form
-        name = name if isinstance(name, str) else ' '.join(name)
         self.text = f'&{self.pointed}' if self.pointed else f'{name}({", ".join(map(show_operand, operands))})'
 
 
 class Assign:
     def __init__(self, term, in_loop):
-        self.target, self.value, self.in_loop = Place(term[1]), Value(term[2]), in_loop
+        self.target, self.value, self.in_loop = Place(term[0]), Value(term[1]), in_loop
 
     def __str__(self):
         return f'{self.target} = {self.value.text}'
@@ -280,85 +256,104 @@ class Assign:
 
 class Call:
     def __init__(self, term, in_loop):
-        if term[1][0] != 'direct' or term[1][1][0] != 'fnRef':
-            raise Unknown(f'a call: {term[1]}')
-        self.callee, self.arguments = term[1][1][1], [operand(one) for one in items(term[2])]
-        self.target, self.in_loop = Place(term[3]), in_loop
-        self.shown = [show_operand(one) for one in items(term[2])]
+        head, has = form(term[0])
+        if head != 'Fn':
+            raise Unknown(f'a call: {term[0]}')
+        self.callee, self.arguments = has[0], [operand(one) for one in term[1]]
+        self.is_generic = bool(has[1]['types'] or has[1]['dicts'])
+        self.target, self.in_loop = Place(term[2]), in_loop
+        self.shown = [show_operand(one) for one in term[1]]
         self.text = f'{self.target} = {self.callee}({", ".join(self.shown)})'
 
     def __str__(self):
         return self.text
 
 
-def statements(body, in_loop=False):
-    """The assignments and calls of a body, each with whether it stands in a loop; 'loop' and 'end' stand around a loop's."""
-    while isinstance(body, list) and body[0] == 'seq':
-        yield from statements(body[1], in_loop)
-        body = body[2]
-    if body in ('skip', 'return'):
-        return
-    head = body[0]
-    if head == 'assign':
-        yield Assign(body, in_loop)
-    elif head == 'call':
-        yield Call(body, in_loop)
-    elif head == 'block':
-        yield from statements(body[1], in_loop)
-    elif head == 'loop':
-        yield from statements(body[1], True)
-    elif head == 'if' and len(body) == 4:
-        operand(body[1])
-        yield from statements(body[2], in_loop)
-        yield from statements(body[3], in_loop)
-    elif head == 'switch' and len(body) == 3:
-        operand(body[1])
-        arms = body[2]
-        while arms != 'noDefault' and arms[0] == 'arm':
-            yield from statements(arms[2], in_loop)
-            arms = arms[3]
-        if arms != 'noDefault':
-            if arms[0] != 'default':
-                raise Unknown(f'an arm: {arms[0]}')
-            yield from statements(arms[1], in_loop)
-    elif head != 'exit':
-        raise Unknown(f'a statement: {head}')
+def read_body(row):
+    """A body as one nested list, from the row of its parts: each part comes before what it is made of."""
+    parts = iter(row)
+
+    def read():
+        before = []
+        for part in parts:
+            name, has = form(part)
+            if name == 'Seq':
+                before.append(read())
+                continue
+            inner = {'Block': 1, 'Loop': 1, 'If': 2}.get(name, 0)
+            if name == 'Switch':
+                inner = len(has[1]) + bool(has[2])
+            body = [name, has, *(read() for _ in range(inner))]
+            for first in reversed(before):
+                body = ['Seq', None, first, body]
+            return body
+        raise Unknown('a body that breaks off')
+
+    body = read()
+    if next(parts, None) is not None:
+        raise Unknown('a body with something behind its end')
+    return body
 
 
-def outline(body, indent=''):
+def in_sequence(body):
+    while body[0] == 'Seq':
+        yield body[2]
+        body = body[3]
+    yield body
+
+
+def statements(whole, in_loop=False):
+    """The assignments and calls of a body, each with whether it stands in a loop. What lends a constant is an assignment."""
+    for body in in_sequence(whole):
+        name, has, *inner = body
+        if name == 'Seq':
+            yield from statements(body, in_loop)
+        elif name == 'Assign':
+            yield Assign(has, in_loop)
+        elif name == 'LendStatic':
+            # a pointer to bytes that are never written
+            yield Assign([has[0], {'Static': has[2]}], in_loop)
+        elif name == 'Call':
+            yield Call(has, in_loop)
+        elif name in ('Block', 'Loop', 'If', 'Switch'):
+            if name in ('If', 'Switch'):
+                operand(has if name == 'If' else has[0])
+            for one in inner:
+                yield from statements(one, in_loop or name == 'Loop')
+        elif name not in ('Skip', 'Return', 'Exit', 'Unreachable'):
+            raise Unknown(f'a statement: {name}')
+
+
+def outline(whole, indent=''):
     """A body as lines, its branches and loops included: what a pinned function is compared by."""
-    while isinstance(body, list) and body[0] == 'seq':
-        yield from outline(body[1], indent)
-        body = body[2]
-    if isinstance(body, str):
-        yield indent + body
-    elif body[0] in ('assign', 'call'):
-        yield indent + str(next(statements(body)))
-    elif body[0] in ('block', 'loop'):
-        yield indent + body[0]
-        yield from outline(body[1], indent + '  ')
-    elif body[0] == 'if':
-        yield indent + f'if {show_operand(body[1])}'
-        yield from outline(body[2], indent + '  ')
-        yield indent + 'else'
-        yield from outline(body[3], indent + '  ')
-    elif body[0] == 'exit':
-        yield indent + f'exit {body[1]}'
-    else:
-        raise Unknown(f'a statement of a pinned function: {body[0]}')
+    for body in in_sequence(whole):
+        name, has, *inner = body
+        if name == 'Seq':
+            yield from outline(body, indent)
+        elif name in ('Skip', 'Return'):
+            yield indent + camel(name)
+        elif name in ('Assign', 'Call', 'LendStatic'):
+            yield indent + str(next(statements(body)))
+        elif name in ('Block', 'Loop'):
+            yield indent + camel(name)
+            yield from outline(inner[0], indent + '  ')
+        elif name == 'If':
+            yield indent + f'if {show_operand(has)}'
+            yield from outline(inner[0], indent + '  ')
+            yield indent + 'else'
+            yield from outline(inner[1], indent + '  ')
+        elif name == 'Exit':
+            yield indent + f'exit {has}'
+        else:
+            raise Unknown(f'a statement of a pinned function: {name}')
 
 
 class Function:
     def __init__(self, name, term, types):
-        if term[0] != 'fnItem' or len(term) != 6:
-            raise Unknown(f'the function {name}')
-        self.name, self.types, self.body = name, types, term[5]
-        self.parameters = range(1, int(term[3]) + 1)
-        self.locals = []
-        for local in items(term[4]):
-            if local[0] != 'local':
-                raise Unknown(f'a local of {name}')
-            self.locals.append(read_type(local[1]))
+        self.name, self.types, self.body = name, types, read_body(term['body'])
+        self.parameters = range(1, term['params'] + 1)
+        self.is_generic = any(term['generics'][it] for it in ('types', 'impls', 'method_of'))
+        self.locals = [read_type(local['ty']) for local in term['locals']]
         self.statements = list(statements(self.body))
 
     def crate(self):
@@ -384,28 +379,34 @@ class Function:
 
 
 class Program:
-    def __init__(self, text):
-        term = read_term(text)
-        if len(term) != 3 or term[0] != 'program':
-            raise Unknown('a text that is no program')
-        self.types, self.functions = Types(), {}
-        definitions = items(term[1])
-        for one in definitions:
-            for declared in items(one[3]) if len(one) > 3 else []:
-                self.types.declare(declared[1], declared[2])
-        for one in definitions:
-            if one[0] != 'fn-def' or one[1] in self.functions:
-                raise Unknown(f'a definition: {one[:2]}')
-            self.functions[one[1]] = Function(one[1], one[2], self.types)
+    """The functions of the libraries, and of the kit's libraries those that are asked for."""
+
+    def __init__(self, functions, of_kit):
+        self.types, self.functions, self.of_kit, self.read = Types(), {}, of_kit, {}
+        for name, term in functions:
+            if name in self.functions:
+                raise Unknown(f'{name} is there twice')
+            self.functions[name] = self._read(name, term)
+            if self.functions[name].is_generic:
+                raise Unknown(f'{name} is for types that its caller chooses')
         for function in self.functions.values():
             for call in function.calls():
-                if call.callee not in self.functions:
-                    raise Unknown(f'{function.name} calls {call.callee}, which has no body')
+                self.function(call.callee, function.name)
 
-    def function(self, name):
-        if name not in self.functions:
-            raise Unknown(f'there is no function {name}')
-        return self.functions[name]
+    def _read(self, name, term):
+        for declared in term['types']:
+            self.types.declare(declared['name'], declared['shape'])
+        return Function(name, term, self.types)
+
+    def function(self, name, caller='somebody'):
+        if name in self.functions:
+            return self.functions[name]
+        if name not in self.read:
+            body = self.of_kit(name.split('::')[0]).get(name)
+            if body is None:
+                raise Unknown(f'{caller} calls {name}, which has no body')
+            self.read[name] = self._read(name, body)
+        return self.read[name]
 
     def reached_from(self, names):
         """Every function that a call of these can reach."""
@@ -416,3 +417,25 @@ class Program:
                 reached.add(name)
                 waiting += [call.callee for call in self.function(name).calls()]
         return reached
+
+
+# ---- where they stand
+
+
+@functools.cache
+def functions_of(file):
+    """The functions of a file by their names, and nothing where there is no file."""
+    return dict(json.loads(file.read_text())) if file.is_file() else {}
+
+
+def library_functions(root):
+    """The functions of every library of the project, as it was proved, with their names."""
+    missing = [name for name in libraries(root) if not mir_file(root, name).is_file()]
+    if missing:
+        raise SystemExit(f'stores: no MIR of {", ".join(missing)}: python3 tests/libraries.py mir makes it')
+    return [one for name in libraries(root) for one in functions_of(mir_file(root, name)).items()]
+
+
+def kit_functions(crate):
+    """The functions of a library of the kit by their names."""
+    return functions_of(kit() / 'rlibs' / f'{crate}.rlib' / 'toolchain' / 'mir.json')

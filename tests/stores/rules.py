@@ -17,7 +17,7 @@
 import re
 
 from flow import Flow, Flows, whole_slices
-from mir import Assign
+from mir import Assign, named
 
 STORE = 'stores::staging::store'
 OUTSIDE = 'update::store_outside'
@@ -208,33 +208,33 @@ PINNED = {
 CONTRACTS = [
     ('stores/src/staging.rt',
      'pub fn store(space: Space, image: &mut [u8], i: u64, value: u8) '
-     'requires { ⌜ (OwnSpace space (now image)) × (Free space (now image) i) × (i < length (now image)) ⌝ }',
-     'Rattle·dpfs.specs.Free', 'Free'),
-    ('stores/src/staging.rt', 'pub fn store(space: Space, image: &mut [u8], i: u64, value: u8) ', 'Rattle·stores·specs.specs.Rules', 'OwnSpace'),
+     'requires { (OwnSpace space image.old) × (Free space image.old i) × (i < length image.old) }',
+     'Rattle.dpfs.specs.Free', 'Free'),
+    ('stores/src/staging.rt', 'pub fn store(space: Space, image: &mut [u8], i: u64, value: u8) ', 'Rattle.stores.specs.Rules', 'OwnSpace'),
     ('update/src/lib.rt',
      'fn store_outside(view: View, image: &mut [u8], x: u64, n: u64, i: u64, value: u8) '
-     'requires { ⌜ (OwnView view (now image)) × (x + n ≤ view .level4 .size) × (InPlace view x n i) × (i < length (now image)) ⌝ }',
-     'Rattle·update·specs.specs.Rules', 'InPlace'),
+     'requires { (OwnView view image.old) × (x + n ≤ view.level4.size) × (InPlace view x n i) × (i < length image.old) }',
+     'Rattle.update.specs.Rules', 'InPlace'),
     ('update/src/lib.rt', 'fn store_outside(view: View, image: &mut [u8], x: u64, n: u64, i: u64, value: u8) ',
-     'Rattle·update·specs.specs.Rules', 'OwnView'),
+     'Rattle.update.specs.Rules', 'OwnView'),
     ('update/src/lib.rt',
      'fn put_level(space: Space, view: View, image: &mut [u8], i: u64, x: u64, values: &[u8]) '
-     'requires { ⌜ (StagedIn space view (now image)) × (i ≤ 4) × (x + length (now values) ≤ levelOf view i .size) ⌝ }',
-     'Rattle·ivfc.specs.Views', 'levelOf'),
+     'requires { (StagedIn space view image.old) × (i ≤ 4) × (x + length values.now ≤ (level_of view i).size) }',
+     'Rattle.ivfc.specs.Views', 'level_of'),
     ('update/src/lib.rt',
      'fn enter_some(space: Space, view: View, image: &mut [u8], i: u64, b: u64, end: u64) -> u64 '
-     'requires { ⌜ (StagedIn space view (now image)) × (i < 4) × ',
-     'Rattle·update·specs.specs.Rules', 'StagedIn'),
+     'requires { (StagedIn space view image.old) × (i < 4) × ',
+     'Rattle.update.specs.Rules', 'StagedIn'),
     ('update/src/clearing.rt',
      'pub fn clear_above( space: Space, view: View, image: &mut [u8], i: u64, first: u64, last: u64, front: bool, back: bool, ) '
-     'requires { ⌜ (StagedIn space view (now image)) × (i ≤ 4) × ',
-     'Rattle·update·specs.specs.Rules', 'StagedIn'),
-    ('views/src/places.rt', 'pub fn staged_view(c: Container, q: u64) -> View requires { ⌜ PlacesFit c q ⌝ } ensures { λ r. ⌜ r ≡ stagedView c q ⌝ }',
-     'Rattle·views·specs.specs.Places', 'stagedView'),
-    ('views/src/places.rt', 'pub fn space_of(c: Container) -> Space requires { ⌜ SpaceFits c ⌝ } ensures { λ r. ⌜ r ≡ spaceOf c ⌝ }',
-     'Rattle·views·specs.specs.Places', 'spaceOf'),
-    ('layout/src/opening.rt', 'pub fn open(image: &[u8]) -> Opened ensures { λ r. ⌜ r ≡ opened (now (image .entry)) ⌝ }',
-     'Rattle·layout·specs.specs.Opening', 'opened'),
+     'requires staged_in { (StagedIn space view image.old) × (i ≤ 4) × ',
+     'Rattle.update.specs.Rules', 'StagedIn'),
+    ('views/src/places.rt', 'pub fn staged_view(c: Container, q: u64) -> View requires { PlacesFit c q } ensures { result ≡ staged_view c q }',
+     'Rattle.views.specs.Places', 'staged_view'),
+    ('views/src/places.rt', 'pub fn space_of(c: Container) -> Space requires { SpaceFits c } ensures { result ≡ space_of c }',
+     'Rattle.views.specs.Places', 'space_of'),
+    ('layout/src/opening.rt', 'pub fn open(image: &[u8]) -> Opened ensures { result ≡ opened image.now }',
+     'Rattle.layout.specs.Opening', 'opened'),
 ]
 
 
@@ -410,7 +410,7 @@ class Findings:
         for caller in map(self.program.function, sorted(self.program.reached_from([f'gateway::teplovist_{name}']))):
             for call in caller.calls():
                 result = self.program.function(call.callee).locals[0]
-                if caller.crate() != 'layout' and self.types.holds(result, ('named', 'layout::Container')):
+                if caller.crate() != 'layout' and self.types.holds(result, named('layout::Container')):
                     known = {*steps, *OPENED_UNDER.get(name, [])}
                     self.rule((caller.name, call.callee) in known, f'{name}: {caller.name} has a container from {call.callee}')
 
@@ -425,7 +425,7 @@ class Findings:
         for guarded, makers in MAKERS.items():
             found = set()
             for function in self.program.functions.values():
-                self.guarded_type(function, ('named', guarded), found)
+                self.guarded_type(function, named(guarded), found)
             self.rule(found == makers, f'{guarded}: is made by {sorted(found)}; expected {sorted(makers)}')
             self.said.append(f'{guarded} is made by {", ".join(sorted(found))} alone')
 
@@ -445,7 +445,7 @@ class Findings:
                 if one.value.pointed:
                     pointed = any(map(holds, function.kinds_along(one.value.pointed)))
                     self.rule(not pointed, f'{function.name}: takes the address of a {guarded[1]}: {one}')
-                if along[-1] == guarded and one.value.form != 'rvOpd':
+                if along[-1] == guarded and one.value.form != 'operand':
                     makers.add(function.name)
 
     # ---- what is printed beside
