@@ -1,3 +1,4 @@
+"""The names of the clauses and parameters of each function, read from src/: for turn_proofs.py."""
 import re,os,sys,json
 def clauses(top):
     out={}

@@ -1,5 +1,8 @@
 #!/usr/bin/env python3
-"""conv.py CRATEDIR NAMES.json [--write]: turns Proof.antt files with tie.Need answers into Invariants.antt and Answers.antt."""
+"""Turns Proof.antt files of the older form (`tie.Need-..`) into Invariants.antt and Answers.antt: turn_proofs.py CRATE-FOLDER NAMES.json [--write] [FUNCTION..].
+
+NAMES.json is what `rt check --generated OUT --old-names` writes. Paths of the nested context (`c.before.step`) become flat (`c.step`), goals and loops get
+their new names, tuples for several clauses become records. What it could not turn is printed."""
 import json,os,re,sys
 crate_dir,names=sys.argv[1],json.load(open(sys.argv[2]))
 write='--write' in sys.argv
