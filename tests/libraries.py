@@ -3,11 +3,14 @@
 Usage: libraries.py archive NAME   the static library NAME, target/staticlib/libNAME.a
        libraries.py program NAME   the program NAME, target/bin/NAME
        libraries.py mir            every library of crates.txt, with its MIR: `mir_file` says where
+       libraries.py left SUM       notes what `rt ci` has left in crates/*/out, if the sources still have that sum: .ci/run calls this
 
-What is there already is taken where the sources are those that it was made of. The libraries in crates/*/out that `rt ci` has left are taken too, if
-target/proved says that it read these sources: .ci/run writes that file. Otherwise `rt lib` and `rt run` make what is missing, over what earlier checks kept.
+What is there already is taken where the sources are those that it was made of. So are the libraries and programs that `rt ci` has left, where they and
+the sources are as they were noted. Otherwise `rt lib` and `rt run` make what is missing, over what earlier checks kept.
 """
 import functools
+import hashlib
+import json
 import pathlib
 import shutil
 import subprocess
@@ -117,12 +120,28 @@ def note(root, made):
     made.with_name(f'{made.name}.sources').write_text(f'{sum_of(root)}\n')
 
 
+def in_out(root, name):
+    """What a check leaves of a crate in its out/, by which it is known: of a library the file that has the sums of the others, and a program. A library
+    that has a stamp is one of `rt lib`, which looks after it itself."""
+    format, program = rlib(root, name) / 'format', root / 'crates' / name / 'out' / name
+    files = [file for file in (format, program) if file.is_file() and not (file == format and (rlib(root, name).parent / 'stamp').exists())]
+    return {file.name: hashlib.sha256(file.read_bytes()).hexdigest() for file in files}
+
+
+def note_left(root, sources):
+    """Notes what `rt ci` has left, if the sources are still those that it began with."""
+    noted = root / 'target' / 'left.json'
+    noted.parent.mkdir(exist_ok=True)
+    noted.unlink(missing_ok=True)
+    if sources == sum_of(root):
+        noted.write_text(json.dumps({'sources': sources, 'crates': {name: in_out(root, name) for name in listed(root)}}, indent=1))
+
+
 def left_by_ci(root, names):
-    """Whether the libraries in out/ are those that `rt ci` left, of the sources as they are. (Those of `rt lib` have a stamp, and it looks after them itself.)"""
-    proved = root / 'target' / 'proved'
-    if not proved.is_file() or proved.read_text().strip() != sum_of(root):
-        return False
-    return all(rlib(root, name).is_dir() and not (rlib(root, name).parent / 'stamp').exists() for name in names)
+    """Whether what stands in the out/ of these crates is what `rt ci` left there, of the sources as they are."""
+    noted = root / 'target' / 'left.json'
+    said = json.loads(noted.read_text()) if noted.is_file() else {}
+    return said.get('sources') == sum_of(root) and all(said['crates'].get(name) and said['crates'][name] == in_out(root, name) for name in names)
 
 
 def run_rt(root, name, *words):
@@ -174,7 +193,7 @@ def program(root, name):
     made.parent.mkdir(parents=True, exist_ok=True)
     made.unlink(missing_ok=True)
     built = root / 'crates' / name / 'out' / name
-    if not (left_by_ci(root, below(root, name)) and built.is_file()):
+    if not left_by_ci(root, [name]):
         run_rt(root, name, 'run')
     shutil.copy(built, made)
     note(root, made)
@@ -210,6 +229,8 @@ def main(what='', *names):
     try:
         if what == 'mir' and not names:
             mir(root)
+        elif what == 'left' and len(names) == 1:
+            note_left(root, *names)
         elif what in ('archive', 'program') and len(names) == 1:
             {'archive': archive, 'program': program}[what](root, *names)
         else:
