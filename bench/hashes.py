@@ -1,4 +1,4 @@
-"""For gdb: counts, in each case that the program marks, how often ivfc::hashing::digests_from hashes each block. See bench/hashes."""
+"""For gdb: counts, in each case that the program marks, how often ivfc::Reader::digests_from hashes each block. See bench/hashes."""
 import collections
 
 import gdb
@@ -38,14 +38,14 @@ class Returned(gdb.Breakpoint):
 
 
 class Hashing(gdb.Breakpoint):
-    """digests_from(view, image, i, b, end): the places of the result and of the view, the image's two words, the level and the first block are in
-    registers, in this order. It does not call itself."""
+    """digests_from(reader, i, b, end): the places of the result and of the reader, the level and the first block are in registers, in this order.
+    It does not call itself."""
 
     def stop(self):
         place = word(register('rsp'))
         if place not in Returned.places:
             Returned.places[place] = Returned(f'*{place:#x}', internal=True)
-        Returned.waiting = (register('rdi'), register('r8'), register('r9'))
+        Returned.waiting = (register('rdi'), register('rdx'), register('rcx'))
         return False
 
 
@@ -90,7 +90,7 @@ def run():
 
 
 gdb.execute('set pagination off')
-stops = [Hashing("'ivfc::hashing::digests_from'", internal=True), Starts('case_starts', internal=True), Ends('case_ends', internal=True)]
+stops = [Hashing("'ivfc::Reader::digests_from'", internal=True), Starts('case_starts', internal=True), Ends('case_ends', internal=True)]
 Tally.broken += [f'the program has no {stop.location}' for stop in stops if stop.pending]
 if not Tally.broken:
     run()

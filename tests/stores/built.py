@@ -30,9 +30,16 @@ def changed_by_edits(root):
     return {crate: sorted(names) for crate, names in found.items() if names}
 
 
+def by_name(term):
+    """A body with each function that it calls by its name alone."""
+    if isinstance(term, dict):
+        return {'Fn': term['Fn'][0]} if 'Fn' in term else {word: by_name(has) for word, has in term.items()}
+    return list(map(by_name, term)) if isinstance(term, list) else term
+
+
 def plain(function):
-    """What is compared of a function. (Of a constant that is lent, which bytes it has is not read.)"""
-    body = [{'LendStatic': [*part['LendStatic'][:2], 'Unread']} if isinstance(part, dict) and 'LendStatic' in part else part for part in function['body']]
+    """What is compared of a function. (Of a constant that is lent, which bytes it has is not read, nor for which types a generic function is called.)"""
+    body = [{'LendStatic': [*part['LendStatic'][:2], 'Unread']} if isinstance(part, dict) and 'LendStatic' in part else by_name(part) for part in function['body']]
     types = sorted((one['name'], str(one['shape'])) for one in function['types'])
     return function['params'], function['locals'], types, body
 

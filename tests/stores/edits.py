@@ -38,7 +38,7 @@ SIGNED_BACK = lines('store_signed(image, restored, key, signer);')
 PUT = lines('put_level(space, view, image, 4, x, values);')
 NEW = '// A session that remembers nothing.\n'
 STAGE_IMAGE = "// And each partition's other half"
-SECOND_TREE = lines('if c.header.count == 2 {', '    begin_tree(space, space.b, image);', '}')
+SECOND_TREE = lines('if let Some(b) = space.b {', '    begin_tree(space, b, image);', '}')
 
 
 def in_begin(*texts):
@@ -85,14 +85,15 @@ OTHER_STORES = [
         'let mut none = [0u8; 1];', 'let mut lent = &mut none[..];', 'helper(&mut lent, image);', 'lent[0] = 0;')),
     ('a function of a library of the kit', 'begin: the image is stored to by core::str::ascii::lowercase_in_place', in_begin(
         'image.make_ascii_lowercase();')),
+    ('a loop over the bytes', BY_STAGE_IMAGE, in_begin('for byte in image.iter_mut() {', '    *byte = 0;', '}')),
     ('an image by another name', 'begin: the image is stored to by container::sessions::begin', {SESSIONS: [
         ('pub fn begin(image: &mut [u8]', 'pub fn begin(target: &mut [u8]'),
-        ('image.new (calls.begin image.old session) }\n{\n    let answer = open(image);',
-         'target.new (calls.begin target.old session) }\n{\n    let answer = open(target);'),
+        ('image.new (calls.begin image.old session) }\n{\n    let c = match open(image) {',
+         'target.new (calls.begin target.old session) }\n{\n    let c = match open(target) {'),
         ('    let header = header_of(image);\n' + BEGUN,
          lines('let header = header_of(target);', 'stage_image(space_of(c), c, target);', 'target[0] = 0;'))]}),
     ('a store at the boundary', 'begin: the image is stored to by gateway::teplovist_begin', {
-        GATEWAY: [after(lines('let begun = sessions::begin(image, session_of(before));'), 'image[0] = 0;')]}),
+        GATEWAY: [after(lines('let begun = sessions::begin(image, session_of(*session));'), 'image[0] = 0;')]}),
     ('a call that nobody knows', 'a public call that is lent other parameters than those known', {
         SESSIONS: [(NEW, 'pub fn touch(image: &mut [u8]) {\n    image[0] = 0;\n}\n\n' + NEW)]}),
     ('a weaker demand on a place', 'stores/src/staging.rt: does not have', {
@@ -113,7 +114,7 @@ OTHER_STORES = [
 
 OTHER_SPACES = [
     ('an invented space', 'dpfs::Space: is made by', with_range(
-        'let all = Range { offset: 0, size: 0x200 };', 'let a = space.a;', 'let wide = Space { table: all, a, b: a, two: false };',
+        'let all = Range { offset: 0, size: 0x200 };', 'let a = space.a;', 'let wide = Space { table: all, a, b: None };',
         'let value = image[0x100];', 'store(wide, image, 0x100, 0);', 'store(wide, image, 0x100, value);')),
     ('a space by an update of another', 'dpfs::Space: is made by', with_range(
         'let all = Range { offset: 0, size: 0x200 };', 'let wide = Space { table: all, ..space };', 'store(wide, image, 0, 0);')),
@@ -134,26 +135,24 @@ OTHER_SPACES = [
         'let a = c.a;', 'let h = c.header;', 'let second = c.b;', 'let other = layout::Container { header: h, a, b: second };',
         'stage_image(space_of(other), c, image);'))]}),
     ('a container of other bytes', 'begin: steps::beginning::stage_image has a container from layout::opening::open', in_begin(
-        'let crafted = [0u8; 512];', 'let answer = layout::opening::open(&crafted);',
-        'let layout::Opened::Valid(other) = answer else {', '    return;', '};',
+        'let crafted = [0u8; 512];', 'let Ok(other) = layout::opening::open(&crafted) else {', '    return;', '};',
         'store(views::places::space_of(other), image, 0, 0);')),
     ('a container of the bytes to write', 'write: container::sessions::write has a container from container::reading::open', {SESSIONS: [
         before(lines('write_partition(image, session, c, partition, place, bytes)'),
-               'let other = super::reading::open(bytes);',
-               'let Opened::Valid(d) = other else {', '    return refused(session, Refusal::Stale);', '};',
+               'let Ok(d) = super::reading::open(bytes) else {', '    return refused(session, Refusal::Stale);', '};',
                'stores::staging::store(space_of(d), image, 0, 0);')]}),
     ('a container of a part of the image', 'container::sessions::begin: is to open its image, whole and once', {SESSIONS: [(
-        'calls.begin image.old session) }\n{\n    let answer = open(image);',
-        'calls.begin image.old session) }\n{\n    let answer = open(&image[1..]);')]}),
+        'calls.begin image.old session) }\n{\n    let c = match open(image) {',
+        'calls.begin image.old session) }\n{\n    let c = match open(&image[1..]) {')]}),
     ('a session entered on a part of the image', 'container::sessions::write: is to open its image, whole and once', {SESSIONS: [(
-        'partition place bytes.now) }\n{\n    let answer = enter(image, session);',
-        'partition place bytes.now) }\n{\n    let answer = enter(&image[1..], session);')]}),
+        'partition place bytes.now) }\n{\n    let c = match enter(image, session) {',
+        'partition place bytes.now) }\n{\n    let c = match enter(&image[1..], session) {')]}),
     ('an entering that opens a part of the image', 'steps::entering::enter: is to open its image, whole and once', {ENTERING: [(
-        'entered image.now session }\n{\n    let answer = open(image);',
-        'entered image.now session }\n{\n    let answer = open(&image[1..]);')]}),
+        'entered image.now session }\n{\n    let c = open(image)?;',
+        'entered image.now session }\n{\n    let c = open(&image[1..])?;')]}),
     ('a step back that opens twice', 'steps::entering::enter_back: is to open its image, whole and once', {ENTERING: [(
-        'entered_back image.now session }\n{\n    let answer = open(image);',
-        'entered_back image.now session }\n{\n    let _first = open(image);\n    let answer = open(image);')]}),
+        'entered_back image.now session }\n{\n    let c = open(image)?;',
+        'entered_back image.now session }\n{\n    let _first = open(image);\n    let c = open(image)?;')]}),
 ]
 
 ONE_HEADER = 'commit: commits::store_header is to have the image from one call'
@@ -167,7 +166,7 @@ OTHER_COMMITS = [
     ('two commits', 'commit: commits::switch_tables is to have the image from one call', {
         SESSIONS: [after(SWITCHED, 'switch_tables(image, c);')]}),
     ('each byte of the header twice', 'number::runs::copy_into: is not, statement by statement', {RUNS: [before(
-        lines('    target[at + k] = run[k];'), '    target[at + k] = 0;')]}),
+        lines('    target[at + k] = *value;'), '    target[at + k] = 0;')]}),
     ('a store by commit, put back', 'commit: the image is stored to by stores::staging::store', {SESSIONS: [before(
         SWITCHED, 'let at = layout::tables::inactive_range(c.header).offset;', 'let value = image[at as usize];',
         'stores::staging::store(space_of(c), image, at, 0);', 'stores::staging::store(space_of(c), image, at, value);')]}),
@@ -195,7 +194,7 @@ NOT_AS_THEY_ARE = 'does not hand on its partition, place and bytes as they are'
 
 OTHER_PLACES = [
     ('a write in place one byte past the range', 'update::put_outside: is not, statement by statement', {
-        UPDATE: [('view.outside + x + i as u64, value', 'view.outside + x + 1 + i as u64, value')]}),
+        UPDATE: [('view.outside + x + i as u64, *value', 'view.outside + x + 1 + i as u64, *value')]}),
     ('a second store in place', 'update::store_outside: is not, statement by statement', {
         UPDATE: [after(lines('image[at] = value;'), 'image[at] = value;')]}),
     ('a store in place by begin', 'begin: the image is stored to by update::store_outside', {
@@ -237,20 +236,22 @@ OTHER_PLACES = [
 ]
 
 TWICE_BACK = 'revert: commits::store_header is to have the image from one call'
+ENTERED_BACK = ['let Ok(d) = enter_back(image, session) else {', '    return refused(session, Refusal::NothingToRevert);', '};']
 
 OTHER_REVERTS = [
     ('a revert that tries the former header by storing it', TWICE_BACK, {SESSIONS: [(RESTORED, lines(
-        'let later = session.later;', 'store_header(image, former);', 'let tried = open(image);', 'let Opened::Valid(_d) = tried else {',
+        'let later = session.later;', 'store_header(image, former);', 'let Ok(_d) = open(image) else {',
         '    store_header(image, later);',
         '    return refused(session, Refusal::NothingToRevert);', '};'))]}),
     ('a revert that stores twice', TWICE_BACK, {SESSIONS: [after(RESTORED, 'store_header(image, former);')]}),
     ('a revert of two headers', TWICE_BACK, {SESSIONS: [before(RESTORED, 'store_header(image, [0u8; 256]);')]}),
-    ('a revert that commits before', 'revert reaches commits::switch_tables', {SESSIONS: [before(RESTORED, 'switch_tables(image, _c);')]}),
+    ('a revert that commits before', 'revert reaches commits::switch_tables', {SESSIONS: [before(
+        RESTORED, *ENTERED_BACK, 'switch_tables(image, d);')]}),
     ('a store by a revert itself', 'revert: the image is stored to by container::sessions::revert', {SESSIONS: [before(
         RESTORED, 'let value = image[0x300];', 'image[0x300] = value;')]}),
     ('a store by a revert, put back', 'revert: the image is stored to by stores::staging::store', {SESSIONS: [before(
-        RESTORED, 'let at = layout::tables::inactive_range(_c.header).offset;', 'let value = image[at as usize];',
-        'stores::staging::store(space_of(_c), image, at, 0);', 'stores::staging::store(space_of(_c), image, at, value);')]}),
+        RESTORED, *ENTERED_BACK, 'let at = layout::tables::inactive_range(d.header).offset;', 'let value = image[at as usize];',
+        'stores::staging::store(space_of(d), image, at, 0);', 'stores::staging::store(space_of(d), image, at, value);')]}),
     ('a signed revert that stores twice', 'revert_signed: commits::store_signed is to have the image from one call', {
         SESSIONS: [after(SIGNED_BACK, 'store_signed(image, restored, key, signer);')]}),
     ('a signed revert that stores the header before', 'revert_signed reaches commits::store_header', {
@@ -259,12 +260,11 @@ OTHER_REVERTS = [
         RESTORED, 'store_signed(image, former, [0u8; 16], Signer::Card);')]}),
     ('a commit that goes back', ONE_HEADER, {SESSIONS: [after(SWITCHED, 'store_header(image, header);')]}),
     ('a begin under another header', 'begin: steps::beginning::stage_image has a container from layout::opening::open_under', in_begin(
-        'let crafted = [0u8; 256];', 'let answer = layout::opening::open_under(image, &crafted);',
-        'let layout::Opened::Valid(other) = answer else {', '    return;', '};',
+        'let crafted = [0u8; 256];', 'let Ok(other) = layout::opening::open_under(image, &crafted) else {', '    return;', '};',
         'store(views::places::space_of(other), image, 0, 0);')),
     ('a revert that opens another image', 'revert: container::sessions::revert has a container from layout::opening::open_under', {
         SESSIONS: [(RESTORED, lines(
-            'let under = layout::opening::open_under(image, &former);', 'let Opened::Valid(_d) = under else {',
+            'let Ok(_d) = layout::opening::open_under(image, &former) else {',
             '    return refused(session, Refusal::NothingToRevert);', '};') + RESTORED)]}),
 ]
 
@@ -273,7 +273,7 @@ OTHER_BLANKS = [
         '../crates.txt': [('container: number', 'container: blank number')],
         SESSIONS: [before(BEGUN, 'blank::making::make_blank(image, layout::Kind::Disa, 1);')]}),
     ('a read that makes a blank image of a copy', 'gateway::teplovist_verified reaches blank::', {GATEWAY: [before(
-        lines('verdict_answer(reading::verified(image, partition, block))'), 'let mut copy = [0u8; 0x6000];',
+        lines('answer_of(reading::verified(image, partition, block))'), 'let mut copy = [0u8; 0x6000];',
         'making::make_blank(&mut copy, layout::Kind::Disa, 1);')]}),
     ('a store of a blank image elsewhere', 'make_blank: the image is stored to by', {MAKING: [(
         lines('clear(image);', 'if fill(image, kind, n) {'), lines('clear(image);', 'image[0] = 0;', 'if fill(image, kind, n) {'))]}),
@@ -297,6 +297,7 @@ FORMS = [
     ('{"Fields": ', '{"Union": '),
     ('{"Fn": ["number::runs::copy_into", ', '{"Fn": ["number::runs::nobody", '),
     ('["stores::staging::copy_within", {', '["stores::staging::store", {'),
-    ('"generics": {"types": [], ', '"generics": {"types": ["Type"], '),
+    ('{"Fn": ["stores::staging::store", ', '{"Fn": ["core::slice::edits::slice+T::copy_from_slice", '),
+    ('{"Fn": ["stores::staging::store", ', '{"Method": [{"Given": 0}, '),
     ('{"Assign": [', '{"Foreign": ['),
 ]

@@ -106,8 +106,8 @@ class Types:
         return [[with_types(field, kind[2]) for field in fields] for fields in variants], is_struct
 
     def holds(self, kind, wanted):
-        """Whether a value of a type is, or holds or leads to, one whose type is `wanted`: a type, or the words 'pointer' or 'mutable'. Of a type that a
-        caller chooses, it is taken for granted."""
+        """Whether a value of a type is, or holds or leads to, one whose type is `wanted`: a type, or the words 'pointer', 'mutable' or 'bytes', a way to
+        store to bytes. Of a type that a caller chooses, a word is taken for granted; a type is seen at the caller, where it is that type."""
         if (kind, wanted) not in self.known:
             self.known[kind, wanted] = False
             self.known[kind, wanted] = self._is(kind, wanted) or any(self.holds(part, wanted) for part in self._parts(kind))
@@ -115,11 +115,13 @@ class Types:
 
     def _is(self, kind, wanted):
         if kind[0] == 'param':
-            return True
+            return isinstance(wanted, str)
         if wanted == 'pointer':
             return kind[0] in ('pointer', 'reference')
         if wanted == 'mutable':
             return kind[0] == 'reference' and kind[1]
+        if wanted == 'bytes':
+            return kind[0] == 'pointer' or kind[0] == 'reference' and kind[1] and kind[2][0] in ('plain', 'array', 'param')
         return kind == wanted
 
     def _parts(self, kind):
@@ -142,6 +144,9 @@ class Types:
 
     def carries_mutable(self, kind):
         return self.holds(kind, 'mutable')
+
+    def may_store(self, kind):
+        return self.holds(kind, 'bytes')
 
     def step(self, kind, variant, step):
         """The type after one step from a place, and the variant that the place is then seen as."""
@@ -188,7 +193,8 @@ class Place:
         return text
 
 
-CONSTANTS = {'Int', 'Float'}
+# A number, or one that stands for a type's parameter or size.
+CONSTANTS = {'Int', 'Float', 'NumOf', 'SizeOf'}
 
 
 def operand(term):
@@ -207,6 +213,8 @@ def show_operand(term):
         return str(Place(has))
     if name not in CONSTANTS:
         return camel(name)
+    if name in ('NumOf', 'SizeOf'):
+        return f'{camel(name)} {json.dumps(has)}'
     if 'width' not in has or len(has) != 2:
         raise Unknown(f'an operand: {term}')
     return f'{camel(name)} {next(value for key, value in has.items() if key != "width")}'
@@ -255,12 +263,16 @@ class Assign:
 
 
 class Call:
+    """A call of a function by its name, or of a method that a trait's table has: of the latter `callee` is the table and the method's number, which no
+    function is called."""
+
     def __init__(self, term, in_loop):
         head, has = form(term[0])
-        if head != 'Fn':
+        if head not in ('Fn', 'Method'):
             raise Unknown(f'a call: {term[0]}')
-        self.callee, self.arguments = has[0], [operand(one) for one in term[1]]
-        self.is_generic = bool(has[1]['types'] or has[1]['dicts'])
+        self.callee = has[0] if head == 'Fn' else f'method {json.dumps(has[:2])}'
+        self.is_named = head == 'Fn'
+        self.arguments = [operand(one) for one in term[1]]
         self.target, self.in_loop = Place(term[2]), in_loop
         self.shown = [show_operand(one) for one in term[1]]
         self.text = f'{self.target} = {self.callee}({", ".join(self.shown)})'
@@ -352,7 +364,7 @@ class Function:
     def __init__(self, name, term, types):
         self.name, self.types, self.body = name, types, read_body(term['body'])
         self.parameters = range(1, term['params'] + 1)
-        self.is_generic = any(term['generics'][it] for it in ('types', 'impls', 'method_of'))
+        self.methods = [method for table in term['generics']['impls'] for method in table['methods']]
         self.locals = [read_type(local['ty']) for local in term['locals']]
         self.statements = list(statements(self.body))
 
@@ -379,7 +391,8 @@ class Function:
 
 
 class Program:
-    """The functions of the libraries, and of the kit's libraries those that are asked for."""
+    """The functions of the libraries, and of the kit's libraries those that are asked for. What a function calls is known, but for what a table of
+    methods has; it makes the tables that it hands on, or was handed them, and a function of the kit can name none of the project."""
 
     def __init__(self, functions, of_kit):
         self.types, self.functions, self.of_kit, self.read = Types(), {}, of_kit, {}
@@ -387,16 +400,18 @@ class Program:
             if name in self.functions:
                 raise Unknown(f'{name} is there twice')
             self.functions[name] = self._read(name, term)
-            if self.functions[name].is_generic:
-                raise Unknown(f'{name} is for types that its caller chooses')
         for function in self.functions.values():
             for call in function.calls():
-                self.function(call.callee, function.name)
+                if call.is_named and not self.is_of_kit(call.callee):
+                    self.function(call.callee, function.name)
 
     def _read(self, name, term):
         for declared in term['types']:
             self.types.declare(declared['name'], declared['shape'])
         return Function(name, term, self.types)
+
+    def is_of_kit(self, name):
+        return name not in self.functions and name in self.of_kit(name.split('::')[0])
 
     def function(self, name, caller='somebody'):
         if name in self.functions:
@@ -409,13 +424,14 @@ class Program:
         return self.read[name]
 
     def reached_from(self, names):
-        """Every function that a call of these can reach."""
+        """Every function of the project that a call of these can reach, by name or by a table of methods that one of them makes."""
         reached, waiting = set(), list(names)
         while waiting:
             name = waiting.pop()
-            if name not in reached:
+            if name not in reached and not self.is_of_kit(name):
                 reached.add(name)
-                waiting += [call.callee for call in self.function(name).calls()]
+                function = self.function(name)
+                waiting += [call.callee for call in function.calls() if call.is_named] + function.methods
         return reached
 
 

@@ -121,6 +121,9 @@ MAKERS = {
     'layout::Container': {'layout::opening::open_second'},
 }
 
+# What `?` is made of: it hands on the container that it is given, and makes none.
+QUESTION = {'core::result::ResultTry::branch', 'core::result::ResultFromResidualErrResidual::from_residual'}
+
 PINNED = {
     STORE: '''
         _5 = rvOpd(_3)
@@ -137,25 +140,27 @@ PINNED = {
     'update::put_outside': '''
         _8 = rvOpd(_4.1)
         _5 = rvOpd(_8)
-        _6 = rvOpd(int 0)
         block
-          loop
-            _9 = rvOpd(_4.1)
-            _10 = lt unsigned(_6, _9)
-            if _10
-              skip
-            else
-              exit 1
-            _11 = offset(_4.0, _6)
-            _12 = rvOpd((*_11))
-            _7 = rvOpd(_12)
-            _14 = &(*_2.0)
-            _15 = aggregate(_14, _2.1)
-            _16 = add unsigned(_1.8, _3)
-            _17 = rvOpd(_6)
-            _18 = add unsigned(_16, _17)
-            _13 = update::store_outside(_1, _15, _3, _5, _18, _7)
-            _6 = add unsigned(_6, int 1)
+          _6 = rvOpd(int 0)
+          _9 = rvOpd(_4.1)
+          block
+            loop
+              _10 = lt unsigned(_6, _9)
+              if _10
+                skip
+              else
+                exit 1
+              _11 = offset(_4.0, _6)
+              _7 = &(*_11)
+              block
+                _13 = &(*_2.0)
+                _14 = aggregate(_13, _2.1)
+                _15 = add unsigned(_1.8, _3)
+                _16 = rvOpd(_6)
+                _17 = add unsigned(_15, _16)
+                _18 = rvOpd((*_7))
+                _12 = update::store_outside(_1, _14, _3, _5, _17, _18)
+              _6 = add unsigned(_6, int 1)
         _0 = rvOpd(unit)
         return''',
     'commits::store_header': '''
@@ -185,21 +190,24 @@ PINNED = {
         _0 = rvOpd(unit)
         return''',
     COPY: '''
-        _4 = rvOpd(int 0)
         block
-          loop
-            _5 = rvOpd(_3.1)
-            _6 = lt unsigned(_4, _5)
-            if _6
-              skip
-            else
-              exit 1
-            _7 = offset(_3.0, _4)
-            _8 = rvOpd((*_7))
-            _5 = add unsigned(_2, _4)
-            _9 = offset(_1.0, _5)
-            (*_9) = rvOpd(_8)
-            _4 = add unsigned(_4, int 1)
+          _4 = rvOpd(int 0)
+          _6 = rvOpd(_3.1)
+          block
+            loop
+              _7 = lt unsigned(_4, _6)
+              if _7
+                skip
+              else
+                exit 1
+              _8 = offset(_3.0, _4)
+              _5 = &(*_8)
+              block
+                _9 = rvOpd((*_5))
+                _10 = add unsigned(_2, _4)
+                _11 = offset(_1.0, _10)
+                (*_11) = rvOpd(_9)
+              _4 = add unsigned(_4, int 1)
         _0 = rvOpd(unit)
         return''',
 }
@@ -233,7 +241,7 @@ CONTRACTS = [
      'Rattle.views.specs.Places', 'staged_view'),
     ('views/src/places.rt', 'pub fn space_of(c: Container) -> Space requires { SpaceFits c } ensures { result ≡ space_of c }',
      'Rattle.views.specs.Places', 'space_of'),
-    ('layout/src/opening.rt', 'pub fn open(image: &[u8]) -> Opened ensures { result ≡ opened image.now }',
+    ('layout/src/opening.rt', 'pub fn open(image: &[u8]) -> Result<Container, Refusal> ensures { result ≡ opened image.now }',
      'Rattle.layout.specs.Opening', 'opened'),
 ]
 
@@ -409,8 +417,7 @@ class Findings:
             self.opens_whole(caller, callee)
         for caller in map(self.program.function, sorted(self.program.reached_from([f'gateway::teplovist_{name}']))):
             for call in caller.calls():
-                result = self.program.function(call.callee).locals[0]
-                if caller.crate() != 'layout' and self.types.holds(result, named('layout::Container')):
+                if caller.crate() != 'layout' and call.callee not in QUESTION and self.types.holds(caller.kind_of(call.target), named('layout::Container')):
                     known = {*steps, *OPENED_UNDER.get(name, [])}
                     self.rule((caller.name, call.callee) in known, f'{name}: {caller.name} has a container from {call.callee}')
 

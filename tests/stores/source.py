@@ -112,6 +112,9 @@ class Reader:
 DEFINED = re.compile(r'^abbrev pub (\S+) : .*?^\1 =(?=\s)(.*?)(?=^abbrev |\Z)', re.M | re.S)
 USED = re.compile(r'^use (\S+?)(?: as (\S+))?$', re.M)
 
+# What `?` calls, which std hands on from core.
+HANDED_ON = {f'std::prelude::{name}': f'core::result::{name}' for name in ('ResultTry::branch', 'ResultFromResidualErrResidual::from_residual')}
+
 
 class Module:
     """A module Code.Mir: what its names stand for, and the modules that it imports."""
@@ -207,6 +210,8 @@ class Module:
             return head[3:].title()
         if head == 'ty_int':
             return {'Int': self.width(has[0])}
+        if head == 'ty_param':
+            return {'Param': self.number(has[0])}
         if head == 'ty_ref':
             return {'Ref': [self.lifetime(has[0]), self.split(has[1])[0].title(), self.type(has[2])]}
         if head == 'ty_array':
@@ -270,13 +275,15 @@ class Module:
     # ---- statements
 
     def callee(self, term):
-        """A function by the module of its symbol, as Rattle.number.proofs.runs.copy_into.Symbol, or of its key, for one that calls itself."""
+        """A function by the module of its symbol, as Rattle.number.proofs.runs.copy_into.Symbol, or of its key, for one that calls itself. Of a generic one, for
+        which types it is called is not read: no rule asks it."""
         head, has = self.split(term)
         module, _, name = str(head).partition('.')
         found = re.fullmatch(r'Rattle\.(?:\w+\.below\.)?(\w+)\.(?:proofs|specs\.contracts)\.(\S+)\.(?:Symbol|Key)', self.modules.get(module, ''))
-        if not found or name != 'name' or has:
+        if not found or name != 'name':
             raise Unknown(f'what is called: {head}')
-        return {'Fn': ['::'.join([found[1], *found[2].split('.')]), {'types': [], 'dicts': []}]}
+        path = '::'.join([found[1], *found[2].split('.')])
+        return {'Fn': [HANDED_ON.get(path, path), {'types': [], 'dicts': []}]}
 
     def row(self, term):
         """A body as a row of its parts, each before what it is made of."""

@@ -2,29 +2,22 @@
 // the comments there say where each input is from.
 #![tactic(auto)]
 
-ghost use Rattle.std.specs.Prelude.{◌≡◌, length};
-
 use aes::cipher::encrypt;
 use aes::state::xor;
 use cmac::subkeys;
-use std::io;
+use std::{array, io};
 
 const ZERO: [u8; 16] = [0; 16];
 
 // The key of FIPS 197, appendix B, and of RFC 4493.
 const KEY: [u8; 16] = *b"\x2b\x7e\x15\x16\x28\xae\xd2\xa6\xab\xf7\x15\x88\x09\xcf\x4f\x3c";
 
+// Bytes have no `Display`, and a type for them would be made for this line alone.
 fn print(rt: &impl Print, bytes: [u8; 16]) -> io::Result<()> {
-    let mut i = 0;
-    while i < 16 {
-        print!(rt; "{:02x}", wide(bytes[i]))?;
-        i += 1;
+    for byte in bytes {
+        print!(rt; "{byte:02x}")?;
     }
     Ok(())
-}
-
-fn wide(byte: u8) -> u64 {
-    byte as u64
 }
 
 fn print_named(rt: &impl Print, name: &[u8], bytes: [u8; 16]) -> io::Result<()> {
@@ -127,13 +120,10 @@ fn one_more(byte: u8) -> u8 {
 // Blocks and keys with the first bits set: one bit more each time.
 fn variables(rt: &impl Print) -> io::Result<()> {
     let mut ones = ZERO;
-    let mut i = 0;
-    while i < 128 {
-        let at = i / 8;
-        ones[at] = one_more(ones[at]);
+    for i in 0..128 {
+        ones[i / 8] = one_more(ones[i / 8]);
         print_numbered(rt, b"VarTxt ", i, encrypt(ZERO, ones))?;
         print_numbered(rt, b"VarKey ", i, encrypt(ones, ZERO))?;
-        i += 1;
     }
     Ok(())
 }
@@ -141,11 +131,9 @@ fn variables(rt: &impl Print) -> io::Result<()> {
 // The Monte Carlo test: a hundred times a thousand encryptions, each of the last one, and then the key changes.
 fn thousand(key: [u8; 16], block: [u8; 16]) -> [u8; 16] {
     let mut last = block;
-    let mut i: usize = 0;
-    while i < 1000 {
+    for _i in 0..1000 {
         let next = encrypt(key, last);
         last = next;
-        i += 1;
     }
     last
 }
@@ -153,14 +141,12 @@ fn thousand(key: [u8; 16], block: [u8; 16]) -> [u8; 16] {
 fn chains(rt: &impl Print) -> io::Result<()> {
     let mut key = *b"\x13\x9a\x35\x42\x2f\x1d\x61\xde\x3c\x91\x78\x7f\xe0\x50\x7a\xfd";
     let mut block = *b"\xb9\x14\x5a\x76\x8b\x7d\xc4\x89\xa0\x96\xb5\x46\xf4\x3b\x23\x1f";
-    let mut i = 0;
-    while i < 100 {
+    for i in 0..100 {
         let last = thousand(key, block);
         print_numbered(rt, b"chain ", i, last)?;
         let next = xor(key, last);
         key = next;
         block = last;
-        i += 1;
     }
     Ok(())
 }
@@ -189,23 +175,13 @@ fn code_examples(rt: &impl Print) -> io::Result<()> {
 
 // The message of the rule: byte i is 7 i + 3, modulo 256.
 fn ruled() -> [u8; 80] {
-    let mut message = [0u8; 80];
-    let mut i = 0;
-    while i < 80 {
-        message[i] = ((i * 7 + 3) % 256) as u8;
-        i += 1;
-    }
-    message
+    array::from_fn(|i| ((i * 7 + 3) % 256) as u8)
 }
 
 // Every length up to five blocks.
-fn prefixes(rt: &impl Print, message: &[u8]) -> io::Result<()>
-    requires { length message.now ≡ 80 }
-{
-    let mut n = 0;
-    while n < 81 {
+fn prefixes(rt: &impl Print, message: &[u8]) -> io::Result<()> {
+    for n in 0..=message.len() {
         code(rt, b"prefix ", &message[..n])?;
-        n += 1;
     }
     Ok(())
 }

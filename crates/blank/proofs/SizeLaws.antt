@@ -1,10 +1,11 @@
 -- The sizes of a blank image for 1 to 4096 blocks, as linear facts. Assumes nothing.
-use Prim.Native.Nat.{ℕ, suc, ◌+◌, ◌-◌, ◌*◌, ◌/◌, ◌≤◌, ◌<◌}
+use Prim.Native.Nat.{ℕ, suc, ◌+◌, ◌-◌, ◌*◌, ◌/◌, ◌%◌, ◌≤◌, ◌<◌, min}
 use mathlib.Core.Bool.{true}
-use mathlib.Core.Path.{◌≡◌, refl, ap, ◌∙◌}
+use mathlib.Core.Path.{◌≡◌, refl, sym, ap, ◌∙◌}
 use native.Mathlib.Omega.{arith}
 use native.Mathlib.Nat.{lt-mul-div-succ, mul-div-le, div-eq_of_lt-le, div-lt_iff_lt-mul, mul_comm, mul-add, mul_assoc, suc-mul, mul-le-mul_left}
 use borrow.Author.Tests.{leb-true}
+use Rattle.std.proofs.lemmas.Grind.{div_ceil_times}
 use lib.Dec.{leb}
 use Rattle.number.proofs.Tests.{and_left, and_right}
 use Rattle.blank.specs.Sizes.{blocks_allowed, up, next, bits_for, h1, h2, h3, place4, size1, size2, size3, place2, place3, partition_size, image_size}
@@ -88,6 +89,19 @@ pub rounds_to : (x unit m : ℕ) → 0 < unit → x ≤ unit * m → unit * m < 
 unfolding up
 rounds_to x unit m h enough tight =
     div-eq_of_lt-le {k = m} unit (rw (mul_comm m unit) (omega arith)) (rw (mul_comm (m + 1) unit, mul-add unit m 1) (omega arith))
+
+-- so the library's quotient that is rounded up is `up`, and its multiple at or after x is `next`
+pub ceiling_is : (x unit : ℕ) → 0 < unit → x / unit + min 1 (x % unit) ≡ up x unit
+ceiling_is x unit h =
+    let q : ℕ = x / unit + min 1 (x % unit) in
+    let d : (x ≤ q * unit) × (q * unit < x + unit) = div_ceil_times x unit h in
+    sym (rounds_to x unit q h (rw (mul_comm unit q) d.0) (rw (mul_comm unit q) d.1))
+
+pub multiple_is : (x unit r : ℕ) → 0 < unit → x ≤ r → r < x + unit → r % unit ≡ 0 → r ≡ next x unit
+unfolding next
+multiple_is x unit r h enough tight whole =
+    let e : unit * (r / unit) ≡ r = omega arith in
+    sym e ∙ ap (λ (k : ℕ). unit * k) (sym (rounds_to x unit (r / unit) h (omega arith) (omega arith)))
 
 pub sized : (n : ℕ) → 1 ≤ n → n ≤ 4096 → Sized n
 unfolding h1 h2 h3 place4 next bits_for size1 size2 size3 place2 place3 partition_size image_size

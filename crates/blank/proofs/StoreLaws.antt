@@ -5,8 +5,8 @@ use mathlib.Core.List.{List, ◌++◌}
 use mathlib.Core.Logic.{inr}
 use native.Mathlib.Omega.{arith}
 use native.Mathlib.Decide.{dec_lt}
-use lib.ListN.{length, get_or, take, drop, set, length-append, length-replicate, length-take, get_or-append}
-use lib.Seq.{sets, length-sets, ext_get_or, drop-cons, drop-length, get_or-take, get_or-append-add, get_or-set_same, get_or-set_other}
+use lib.ListN.{length, get_or, take, drop, length-append, length-replicate, length-take, get_or-append}
+use lib.Seq.{sets, length-sets, ext_get_or, drop-cons, drop-length, get_or-take, get_or-append-add}
 use Rattle.number.proofs.ListLaws.{sets_append, sets_in, sets_out}
 use Rattle.signing.proofs.FieldLaws.{length_field}
 use Rattle.blank.specs.Fields.{eight, eights}
@@ -30,19 +30,6 @@ numbers_step s t at k l h e =
 pub numbers_end : (s : List ℕ) (at k : ℕ) (l : List ℕ) → length l ≡ k → sets s (at + 8 * k) (eights (drop k l)) ≡ s
 unfolding eights
 numbers_end s at k l e = rw (← e, drop-length l)
-
--- ---- zeros
-
-pub zeros_step : (s : List ℕ) (i : ℕ) → i < length s → ((j : ℕ) → j < i → get_or s j 0 ≡ 0) → (j : ℕ) → j < i + 1 → get_or (set s i 0) j 0 ≡ 0
-zeros_step s i h z j k = go (dec_lt j i)
-  where
-    go : Dec (j < i) → get_or (set s i 0) j 0 ≡ 0
-    go (yes p) = get_or-set_other s i j 0 0 (λ e. omega arith) ∙ z j p
-    go (no p) = let e : j ≡ i = omega arith in rw e (get_or-set_same s i 0 0 h)
-
-pub zeros_all : (s : List ℕ) (n : ℕ) → length s ≡ n → ((j : ℕ) → j < n → get_or s j 0 ≡ 0) → s ≡ zeros n
-zeros_all s n e z =
-    ext_get_or 0 s (zeros n) (e ∙ sym (length-replicate n 0)) (λ i h. z i (omega arith) ∙ sym (zeros_byte n i))
 
 -- bytes at the front of zeros, cut off at a length, are the bytes followed by zeros
 pub padded : (l : List ℕ) (unit room : ℕ) → length l ≤ unit → unit ≤ room → take unit (sets (zeros room) 0 l) ≡ l ++ zeros (unit - length l)

@@ -11,11 +11,8 @@ fn put_numbers(target: &mut [u8], at: usize, numbers: &[u64])
     requires { at + 8 * length numbers.now ≤ length target.old }
     ensures { target.new ≡ sets target.old at (eights numbers.now) }
 {
-    let mut k = 0;
-    while k < numbers.len() {
-        let x = numbers[k];
-        put_field(target, at + 8 * k, 8, x);
-        k += 1;
+    for (k, x) in numbers.iter().enumerate() {
+        put_field(target, at + 8 * k, 8, *x);
     }
 }
 

@@ -14,7 +14,7 @@ use super::sizes::{hash1, hash2, hash3};
 use ivfc::matching::zero_entry;
 use number::Level;
 use number::blocks::{block_count, block_length, block_size};
-use number::runs::{copy_into, same_bytes};
+use number::runs::copy_into;
 use sha256::digest;
 
 // The size of a block of levels 3 and 4, the largest.
@@ -52,7 +52,7 @@ fn repeats(image: &[u8], from: u64, l: Level, b: u64) -> bool
     }
     let size = unit as usize;
     let start = (from + b * unit) as usize;
-    same_bytes(&image[start - size..start], &image[start..start + size])
+    image[start - size..start] == image[start..start + size]
 }
 
 // The digest of block b, where that of the block before it is at hand: an equal block is not hashed again. In a blank image all blocks of a hash
@@ -61,10 +61,8 @@ fn digest_next(image: &[u8], from: u64, l: Level, b: u64, last: [u8; 32]) -> [u8
     requires { (from + l.size ≤ length image.now) × (l.log ≤ 12) × (b < blocks l) × (length image.now ≤ 0x4000000) × (1 ≤ b → last ≡ sha256 (block l (bytes_from image.now from) (b - 1))) }
     ensures { result ≡ sha256 (block l (bytes_from image.now from) b) }
 {
-    if 1 <= b {
-        if repeats(image, from, l, b) {
-            return last;
-        }
+    if 1 <= b && repeats(image, from, l, b) {
+        return last;
     }
     digest_at(image, from, l, b)
 }
@@ -78,12 +76,10 @@ fn enter_digests(image: &mut [u8], from: u64, l: Level, to: u64) -> bool
     let count = block_count(l);
     let mut zero = false;
     let mut d = [0u8; 32];
-    let mut b = 0;
-    while b < count {
+    for b in 0..count {
         d = digest_next(image, from, l, b, d);
         copy_into(image, (to + 32 * b) as usize, &d);
         zero = zero | zero_entry(&d);
-        b += 1;
     }
     zero
 }
@@ -95,10 +91,8 @@ fn enter_zeros(image: &mut [u8], to: u64, n: u64) -> bool
     ensures value { result ≡ some_zero (spec.ivfc4 n) byte4 (blocks (spec.ivfc4 n)) }
 {
     let d = digest(&[0u8; LARGEST]);
-    let mut k = 0;
-    while k < n {
+    for k in 0..n {
         copy_into(image, (to + 32 * k) as usize, &d);
-        k += 1;
     }
     zero_entry(&d)
 }

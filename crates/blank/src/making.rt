@@ -21,10 +21,9 @@ pub fn blank_length(n: u64) -> u64
 fn clear(image: &mut [u8])
     ensures { image.new ≡ zeros (length image.old) }
 {
-    let mut i = 0;
-    while i < image.len() {
-        image[i] = 0;
-        i += 1;
+    // Not the library's `fill`: tests/stores reads which functions store to an image.
+    for byte in image.iter_mut() {
+        *byte = 0;
     }
 }
 

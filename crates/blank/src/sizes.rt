@@ -16,7 +16,7 @@ fn rounded_up(x: u64, unit: u64) -> u64
     requires { (0 < unit) × (x + unit < 2 ^ 64) }
     ensures { (result ≡ up x unit) × (unit * result < x + unit) }
 {
-    (x + (unit - 1)) / unit
+    x.div_ceil(unit)
 }
 
 // The next multiple of the unit at or after x.
@@ -24,7 +24,7 @@ fn next_multiple(x: u64, unit: u64) -> u64
     requires { (0 < unit) × (x + unit < 2 ^ 64) }
     ensures { (result ≡ next x unit) × (result < x + unit) }
 {
-    unit * rounded_up(x, unit)
+    x.next_multiple_of(unit)
 }
 
 // The least multiple of the unit that has so many bits.

@@ -1,4 +1,5 @@
 -- A blank image opens, for either kind and every n in range. Assumes nothing.
+use Rattle.std.specs.Prelude.{Ok}
 use Prim.Native.Nat.{ℕ, ◌+◌, ◌*◌, ◌%◌, ◌^◌, ◌≤◌, ◌<◌}
 use mathlib.Core.Bool.{true, false, not}
 use mathlib.Core.List.{List, [], ◌∷◌, ◌++◌, append_assoc}
@@ -22,8 +23,6 @@ use Rattle.layout.specs.declared.Kind.{Kind}
 use Rattle.layout.specs.declared.Kind.TheVariants.{Disa, Diff}
 use Rattle.layout.specs.declared.Header.{Header}
 use Rattle.layout.specs.declared.Partition.{Partition}
-use Rattle.layout.specs.declared.Opened.TheVariants.{Valid}
-use Rattle.layout.specs.declared.JudgedPartition.TheVariants.{GoodPartition}
 use Rattle.layout.specs.Magic.{opens_with, ivfc_magic, dpfs_magic}
 use Rattle.layout.specs.Headers.{no_slot, front, header_bytes, hash_range, judged_header, disa_header, diff_header, header_magic, header_fields, selection_allowed, geometry_allowed}
 use Rattle.layout.specs.Every.{onto, every}
@@ -257,7 +256,7 @@ module _ (n : ℕ) (w : Sized n) where
 
   -- ---- the image
 
-  judged : judged_partition (partition_size n) (table n) ≡ GoodPartition (partition n)
+  judged : judged_partition (partition_size n) (table n) ≡ Ok (partition n)
   judged = partition_passes (partition_size n) (table n) (partition n) (omega (arith, im.length_table n w)) (record { fields = table_read; form = form; places = places })
 
   header_checks : (kind : Kind) → HeaderChecks (image_size n) (header kind n) (header_of kind n)
@@ -308,7 +307,7 @@ module _ (n : ℕ) (w : Sized n) where
       ∙ and_both (leb shortest_image (image_size n)) (leb (image_size n) longest_image)
       (le-leb shortest_image (image_size n) (omega arith)) (le-leb (image_size n) longest_image (omega arith))
 
-  pub opens : (kind : Kind) → opened (image kind n) ≡ Valid (container kind n)
+  pub opens : (kind : Kind) → opened (image kind n) ≡ Ok (container kind n)
   opens kind = layout.opens (image kind n) (container kind n) (record {
     size = length_passes kind;
     header = ap₂ judged_header (im.length_image n w kind) (header_bytes_lem kind) ∙ header_passes (image_size n) (header kind n) (header_of kind n) (header_checks kind);

@@ -1,4 +1,6 @@
 -- Calls on a blank image, and on what lists of calls make of it. Assumes nothing.
+use Rattle.std.specs.Prelude.{Result, Ok}
+use Rattle.layout.specs.declared.Refusal.{Refusal}
 use Prim.Native.Nat.{ℕ, zero, suc, ◌+◌, ◌*◌, ◌≤◌, ◌<◌}
 use mathlib.Core.Bool.{Bool, true, false, ◌||◌, cond, or-true, true≢false}
 use mathlib.Core.List.{List}
@@ -17,11 +19,7 @@ use Rattle.number.specs.Bytes.{bytes}
 use Rattle.number.proofs.ListLaws.{bytes_is, bytes_cong}
 use Rattle.layout.specs.declared.Kind.{Kind}
 use Rattle.layout.specs.declared.Container.{Container}
-use Rattle.layout.specs.declared.Outcome.{Outcome}
-use Rattle.layout.specs.declared.Outcome.TheVariants as outcome
 use Rattle.layout.specs.declared.Refusal.TheVariants.{NoPartition}
-use Rattle.layout.specs.declared.Opened.{Opened}
-use Rattle.layout.specs.declared.Opened.TheVariants.{Valid}
 use Rattle.layout.specs.Opening.{opened}
 use Rattle.ivfc.specs.declared.View.{View}
 use Rattle.ivfc.specs.Verified.{count_of}
@@ -30,7 +28,6 @@ use Rattle.ivfc.proofs.LowestLaws.{Lowest, first_lowest}
 use Rattle.update.specs.Covering.{covered}
 use Rattle.update.specs.Staged.{written_to, holds_zero}
 use Rattle.views.specs.Places.{committed_view, staged_view, view_in, partitions, partition_of}
-use Rattle.steps.specs.declared.Count.TheVariants as count
 use Rattle.steps.specs.declared.Ending.TheVariants as ending
 use Rattle.steps.specs.declared.Session.{Session}
 use Rattle.steps.specs.Reading.{refuse_lowest, read_outcome, read_from, Read, filled, count_in}
@@ -67,10 +64,10 @@ module _ (P : ℕ → Bool) (view : View) (place n : ℕ) (fits : place + n ≤ 
       go (no p) =
           absurd (true≢false (sym (all r (omega (arith, last_exists view place n more fits))) ∙ low.here (omega arith)))
 
-  all_pass : refuse_lowest P view place n ≡ outcome.Accepted
+  all_pass : refuse_lowest P view place n ≡ Ok tt
   all_pass = go (dec_lt 0 n)
     where
-      go : Dec (0 < n) → refuse_lowest P view place n ≡ outcome.Accepted
+      go : Dec (0 < n) → refuse_lowest P view place n ≡ Ok tt
       go (no p) = nothing_touched P view place n (omega arith)
       go (yes p) =
           none_refused P view place n _ p refl
@@ -85,13 +82,13 @@ count_all P (suc n) all =
 
 module _ (view : View) (s : List ℕ) (all : (b : ℕ) → b < blocks view.level4 → verified view s 4 b ≡ true)
     (place n : ℕ) (fits : place + n ≤ view.level4.size) where
-  read_passes : read_outcome view s place n ≡ outcome.Accepted
+  read_passes : read_outcome view s place n ≡ Ok tt
   unfolding read_outcome
   read_passes =
       inside_passes view place n _ (le-leb (place + n) view.level4.size fits)
       ∙ all_pass (verified view s 4) view place n fits all
 
-  write_passes : write_outcome view s place n ≡ outcome.Accepted
+  write_passes : write_outcome view s place n ≡ Ok tt
   unfolding write_outcome ends_outcome
   write_passes =
       inside_passes view place n _ (le-leb (place + n) view.level4.size fits)
@@ -100,19 +97,19 @@ module _ (view : View) (s : List ℕ) (all : (b : ℕ) → b < blocks view.level
 
 -- ---- a read and a write of a partition that is there
 
-module _ (s : List ℕ) (c : Container) (o : opened s ≡ Valid c) (there : 0 < partitions c) where
+module _ (s : List ℕ) (c : Container) (o : opened s ≡ Ok c) (there : 0 < partitions c) where
   read_shown : (all : (b : ℕ) → b < blocks (committed_view c 0).level4 → verified (committed_view c 0) s 4 b ≡ true) (place : ℕ) (buffer : List ℕ)
       → place + length buffer ≤ (committed_view c 0).level4.size
-      → read_committed s 0 place buffer ≡ record { outcome = outcome.Accepted; buffer = bytes (content_of (committed_view c 0) s 4) place (length buffer) }
+      → read_committed s 0 place buffer ≡ record { outcome = Ok tt; buffer = bytes (content_of (committed_view c 0) s 4) place (length buffer) }
   unfolding read_committed read_from
   read_shown all place buffer h =
       ap (read_in committed_view s 0 place buffer) o
       ∙ answered (ltb 0 (partitions c)) (read_outcome (committed_view c 0) s place (length buffer)) (lt-ltb 0 (partitions c) there)
       (read_passes (committed_view c 0) s all place (length buffer) h)
     where
-      answered : (t : Bool) (a : Outcome) → t ≡ true → a ≡ outcome.Accepted
+      answered : (t : Bool) (a : Result (Unit {0}) Refusal) → t ≡ true → a ≡ Ok tt
           → ◌≡◌ {A = Read} (cond t (record { outcome = a; buffer = filled a buffer (bytes (content_of (committed_view c 0) s 4) place (length buffer)) }) (unread buffer NoPartition))
-          (record { outcome = outcome.Accepted; buffer = bytes (content_of (committed_view c 0) s 4) place (length buffer) })
+          (record { outcome = Ok tt; buffer = bytes (content_of (committed_view c 0) s 4) place (length buffer) })
       answered t a p q = rw (p, q) refl
 
   -- accepted, or dropped
@@ -123,7 +120,7 @@ module _ (s : List ℕ) (c : Container) (o : opened s ≡ Valid c) (there : 0 < 
   unfolding write finished
   write_shown session b k all place bytes h =
       go (holds_zero (staged_view c 0) place bytes (written_to (staged_view c 0) place bytes s))
-      (ap (λ (x : Opened). ending_of (goes_on s session (write_on s session 0 place bytes) x).outcome) (sym (enters s session (opened s) refl c o b k))
+      (ap (λ (x : Result Container Refusal). ending_of (goes_on s session (write_on s session 0 place bytes) x).outcome) (sym (enters s session (opened s) refl c o b k))
       ∙ answered (ltb 0 (partitions c))
       (holds_zero (staged_view c 0) place bytes (written_to (staged_view c 0) place bytes s)) (write_outcome (staged_view c 0) s place (length bytes))
       (lt-ltb 0 (partitions c) there) (write_passes (staged_view c 0) s all place (length bytes) h))
@@ -131,7 +128,7 @@ module _ (s : List ℕ) (c : Container) (o : opened s ≡ Valid c) (there : 0 < 
       last : List ℕ
       last = written_to (staged_view c 0) place bytes s
 
-      answered : (q z : Bool) (a : Outcome) → q ≡ true → a ≡ outcome.Accepted
+      answered : (q z : Bool) (a : Result (Unit {0}) Refusal) → q ≡ true → a ≡ Ok tt
           → ending_of (cond q (leaving a s session (cond z (record { outcome = ending.Dropped; image = last; session = idle }) (done last session)))
           (unchanged s session NoPartition)).outcome
           ≡ ending_of (cond z ending.Dropped ending.Accepted)
@@ -182,18 +179,18 @@ module _ (kind : Kind) (n : ℕ) (w : Blank kind n) where
   start = record { has = record { container = c; opens = w.opens; there = one; internal = internal }; idle = idle_rests }
 
   reads : (place : ℕ) (buffer : List ℕ) → place + length buffer ≤ 0x1000 * n
-      → read_committed (image kind n) 0 place buffer ≡ record { outcome = outcome.Accepted; buffer = zeros (length buffer) }
+      → read_committed (image kind n) 0 place buffer ≡ record { outcome = Ok tt; buffer = zeros (length buffer) }
   reads place buffer h =
       read_shown (image kind n) c w.opens one stands place buffer (omega (arith, ap (λ (l : Level). l.size) live4))
-      ∙ ap (λ (l : List ℕ). record { outcome = outcome.Accepted; buffer = l })
+      ∙ ap (λ (l : List ℕ). record { outcome = Ok tt; buffer = l })
       (bytes_is (content_of live (image kind n) 4) place (length buffer) (zeros (length buffer)) (length-replicate (length buffer) 0)
       (λ k q. w.zero (place + k) (omega arith) ∙ sym (zeros_byte (length buffer) k)))
 
-  counts : count_verified (image kind n) 0 ≡ count.Blocks n
+  counts : count_verified (image kind n) 0 ≡ Ok n
   unfolding count_verified header_of count_in
   counts =
       ap (count_verified_in (image kind n) 0) w.opens
-      ∙ ap count.Blocks (ap (count_of (verified live (image kind n) 4)) w.count ∙ count_all (verified live (image kind n) 4) n
+      ∙ ap Ok (ap (count_of (verified live (image kind n) 4)) w.count ∙ count_all (verified live (image kind n) 4) n
       (λ b h. stands b (omega (arith, w.count))))
 
   -- ---- after any list
@@ -230,10 +227,10 @@ module _ (kind : Kind) (n : ℕ) (w : Blank kind n) where
 
   back : (calls : List Call) → begins (events calls st) ≤ 1 → 0 < commits (events calls st) → (place : ℕ) (buffer : List ℕ) → place + length buffer ≤ 0x1000 * n
       → read_committed (after calls st).image 0 place buffer
-      ≡ record { outcome = outcome.Accepted; buffer = bytes (λ (i : ℕ). get_or (last_value 0 i (events calls st)) 0) place (length buffer) }
+      ≡ record { outcome = Ok tt; buffer = bytes (λ (i : ℕ). get_or (last_value 0 i (events calls st)) 0) place (length buffer) }
   back calls one-begin some-commit place buffer h =
       read_shown s d g.has.opens g.has.there seen.all place buffer (omega (arith, ap (λ (l : Level). l.size) seen.level))
-      ∙ ap (λ (l : List ℕ). record { outcome = outcome.Accepted; buffer = l })
+      ∙ ap (λ (l : List ℕ). record { outcome = Ok tt; buffer = l })
       (bytes_cong (content_of (committed_view d 0) s 4) (λ (i : ℕ). get_or (last_value 0 i (events calls st)) 0) place place (length buffer)
       (λ k q. byte (place + k) (omega arith)))
     where

@@ -1,10 +1,8 @@
 -- A blank image takes sessions: demand 3 speaks of every list of calls on it, and no call in range is refused for a block.
-use Rattle.std.specs.Prelude.{ℕ, ◌+◌, ◌*◌, ◌≤◌, ◌<◌, true, false, List, ◌⊎◌, ◌≡◌, length}
+use Rattle.std.specs.Prelude.{ℕ, ◌+◌, ◌*◌, ◌≤◌, ◌<◌, true, false, List, ◌⊎◌, ◌≡◌, length, Ok}
 use Rattle.std.proofs.Math.Option.{get_or}
 use Rattle.number.specs.Bytes.{bytes}
 use Rattle.layout.specs.declared.Kind.{Kind}
-use Rattle.layout.specs.declared.Outcome.TheVariants as outcome
-use Rattle.steps.specs.declared.Count.TheVariants as count
 use Rattle.steps.specs.Sessions.{idle}
 use Rattle.steps.specs.Calls.{read_committed, count_verified}
 use Rattle.history.specs.Model.{Plain, Call, Begin, Write, Commit, Accepted, Dropped}
@@ -19,8 +17,8 @@ fresh kind n = record { image = image kind n; session = idle }
 pub record Takes (kind : Kind) (n : ℕ) : Type 0 where
   -- every read in range gives zeros, and all n blocks are counted
   pub reads : (place : ℕ) (buffer : List ℕ) → place + length buffer ≤ 0x1000 * n
-      → read_committed (image kind n) 0 place buffer ≡ record { outcome = outcome.Accepted; buffer = zeros (length buffer) }
-  pub counts : count_verified (image kind n) 0 ≡ count.Blocks n
+      → read_committed (image kind n) 0 place buffer ≡ record { outcome = Ok tt; buffer = zeros (length buffer) }
+  pub counts : count_verified (image kind n) 0 ≡ Ok n
   -- demand 3 speaks of every list of calls
   pub starts : Start 0 (fresh kind n)
   -- after any list, an idle session begins
@@ -33,4 +31,4 @@ pub record Takes (kind : Kind) (n : ℕ) : Type 0 where
   pub back : (calls : List Call) → begins (events calls (fresh kind n)) ≤ 1 → 0 < commits (events calls (fresh kind n))
       → (place : ℕ) (buffer : List ℕ) → place + length buffer ≤ 0x1000 * n
       → read_committed (after calls (fresh kind n)).image 0 place buffer
-      ≡ record { outcome = outcome.Accepted; buffer = bytes (λ (i : ℕ). get_or (last_value 0 i (events calls (fresh kind n))) 0) place (length buffer) }
+      ≡ record { outcome = Ok tt; buffer = bytes (λ (i : ℕ). get_or (last_value 0 i (events calls (fresh kind n))) 0) place (length buffer) }

@@ -1,13 +1,11 @@
 -- What a blank image opens as, and what holds of its blocks.
-use Rattle.std.specs.Prelude.{ℕ, ◌*◌, ◌≤◌, ◌<◌, true, false, ◌≡◌}
+use Rattle.std.specs.Prelude.{ℕ, ◌*◌, ◌≤◌, ◌<◌, true, false, ◌≡◌, Ok, None}
 use Rattle.number.specs.Blocks.{blocks}
 use Rattle.layout.specs.declared.Kind.{Kind}
 use Rattle.layout.specs.declared.Slot.{Slot}
 use Rattle.layout.specs.declared.Header.{Header}
 use Rattle.layout.specs.declared.Partition.{Partition}
-use Rattle.layout.specs.declared.Second.TheVariants.{Missing}
 use Rattle.layout.specs.declared.Container.{Container}
-use Rattle.layout.specs.declared.Opened.TheVariants.{Valid}
 use Rattle.layout.specs.Headers.{no_slot}
 use Rattle.layout.specs.Opening.{opened}
 use Rattle.ivfc.specs.Views.{level_of, verified, content_of}
@@ -49,13 +47,13 @@ partition n = record {
 }
 
 abbrev pub container : Kind → ℕ → Container
-container kind n = record { header = header_of kind n; a = partition n; b = Missing }
+container kind n = record { header = header_of kind n; a = partition n; b = None }
 
 -- ---- what holds of a blank image
 
 pub record Blank (kind : Kind) (n : ℕ) : Type 0 where
   -- it opens, with exactly these fields
-  pub opens : opened (image kind n) ≡ Valid (container kind n)
+  pub opens : opened (image kind n) ≡ Ok (container kind n)
   -- level 4 has n blocks, and all its bytes are zero
   pub count : blocks (committed_view (container kind n) 0).level4 ≡ n
   pub zero : (y : ℕ) → y < 0x1000 * n → content_of (committed_view (container kind n) 0) (image kind n) 4 y ≡ 0

@@ -1,4 +1,5 @@
 -- The 104 bytes of a running digest: what was put reads back, and what a feeding leaves is what it fed. Assumes nothing.
+use Rattle.std.specs.Prelude.{Result, Ok, Err}
 use mathlib.Core.Path.{◌≡◌, refl, sym, ap, ◌∙◌, subst}
 use mathlib.Core.List.{List}
 use mathlib.Core.Logic.{inl}
@@ -6,19 +7,14 @@ use Prim.Native.Nat.{ℕ, ◌+◌, ◌*◌, ◌^◌, ◌≤◌, ◌<◌}
 use native.Mathlib.Omega.{arith}
 use native.Mathlib.Nat.{zero-add}
 use native.Mathlib.Decide.{dec_lt}
-use lib.ListN.{length, get_or, set, take, drop, replicate, length-replicate}
+use lib.ListN.{length, get_or, set, take, drop}
 use lib.Seq.{ext_get_or, get_or-set_same, get_or-set_other, sets, length-sets}
 use Rattle.number.specs.Bytes.{bytes}
 use Rattle.number.specs.Fields.{le16, le32, le64, field_bytes}
-use Rattle.number.proofs.ListLaws.{length_part, get_d_part, bytes_is, sets_in, sets_out, sets_whole}
-use Rattle.sha256.specs.Running.{longest}
+use Rattle.number.proofs.ListLaws.{length_part, get_d_part, bytes_is, sets_in, sets_out}
 use Rattle.sha256.specs.declared.running.Running.{Running}
-use Rattle.layout.specs.declared.Outcome.{Outcome}
-use Rattle.layout.specs.declared.Outcome.TheVariants.{Accepted, Refused}
 use Rattle.layout.specs.declared.Refusal.{Refusal}
-use Rattle.signing.specs.declared.digests.Fed.{Fed}
-use Rattle.signing.specs.declared.digests.Finished.{Finished}
-use Rattle.signing.specs.Digests.{Feeds, Finishes}
+use Rattle.signing.specs.Digests.{Feeds, Finishes, after_feeding}
 use Rattle.signing.specs.Placing.{number_of}
 use Rattle.signing.proofs.FieldLaws.{reads_back}
 use Rattle.layout.specs.Refusals.{outcome_says}
@@ -101,15 +97,10 @@ all_read s hash n w =
     sym (bytes_is (λ (k : ℕ). le32 s (4 * k)) 0 8 hash n (λ k l. ap (λ (j : ℕ). le32 s (4 * j)) (zero-add k) ∙ w k l))
 
 -- words, block and count as the code reads them
-pub read : (state hash rest : List ℕ) (total : ℕ) → length state ≡ 104 → hash ≡ (running_of state).hash
-    → rest ≡ sets (replicate 64 0) 0 (take 64 (drop 32 state)) → total ≡ le64 state 96
+pub read : (state hash rest : List ℕ) (total : ℕ) → hash ≡ (running_of state).hash → rest ≡ take 64 (drop 32 state) → total ≡ le64 state 96
     → ◌≡◌ {A = Running} (record { hash = hash; rest = rest; total = total }) (running_of state)
 unfolding running_of
-read state hash rest total n h r t =
-    let size : length (take 64 (drop 32 state)) ≡ length (replicate {A = ℕ} 64 0) =
-    length_part state 32 64 (omega (arith, n)) ∙ sym (length-replicate {A = ℕ} 64 0) in
-    let block : rest ≡ take 64 (drop 32 state) = r ∙ sets_whole (replicate 64 0) (take 64 (drop 32 state)) size in
-    λ i. record { hash = h i; rest = block i; total = t i }
+read state hash rest total h r t = λ i. record { hash = h i; rest = r i; total = t i }
 
 -- words, block and count, one after the other, are the digest that they are of
 pub joined : (s second third hash rest : List ℕ) (total : ℕ) → length s ≡ 104 → length hash ≡ 8 → length rest ≡ 64 → total < 2 ^ 64 → Words s hash 8
@@ -144,28 +135,18 @@ joined s second third hash rest total n m r b w e f = λ i. record { hash = word
 
 -- ---- what a feeding leaves
 
-never : {A : Type 0} (r : Refusal) → Refused r ≡ Accepted → A
-never r e = absurd (let z : ◌≡◌ {A = ℕ} 0 1 = cc in omega arith)
+-- the bytes hold the digest that is left, also where the piece was refused
+pub stored : (fed : Result Running Refusal) (before after : List ℕ) → StateLeft fed before after → running_of after ≡ after_feeding (running_of before) fed
+stored (Ok running) before after e = e
+stored (Err r) before after e = ap running_of e
 
--- the bytes hold the digest that was fed, also where it was refused
-pub stored : (o : Outcome) (before piece after : List ℕ) (running : Running)
-    → Feeds (running_of before) piece (record { outcome = o; running = running })
-    → StateLeft o running before after → running_of after ≡ running
-stored Accepted before piece after running feeds e = e
-stored (Refused r) before piece after running feeds e = go (dec_lt longest ((running_of before).total + length piece))
-  where
-    go : Dec (longest < (running_of before).total + length piece) → running_of after ≡ running
-    go (yes l) = ap running_of e ∙ sym (feeds.refused l).1
-    go (no l) = never r (feeds.accepted (omega arith)).0.case
-
-pub fed_bytes : {answer : ℕ} {before piece after : List ℕ} (running : Running) (fed : Fed) → running ≡ running_of before → Feeds running piece fed
-    → answer ≡ packed (outcome_says fed.outcome) → StateLeft fed.outcome fed.running before after → FedBytes answer before piece after
+pub fed_bytes : {answer : ℕ} {before piece after : List ℕ} (running : Running) (fed : Result Running Refusal) → running ≡ running_of before
+    → Feeds running piece fed → answer ≡ packed (outcome_says fed) → StateLeft fed before after → FedBytes answer before piece after
 fed_bytes {before = before} {piece = piece} {after = after} running fed e f a l =
-    let feeds : Feeds (running_of before) piece fed = subst (λ (r : Running). Feeds r piece fed) e f in
-    record { fed = fed; feeds = feeds; outcome = a; stored = stored fed.outcome before piece after fed.running feeds l; left = l }
+    record { fed = fed; feeds = subst (λ (r : Running). Feeds r piece fed) e f; outcome = a; stored = stored fed before after l; left = l }
 
-pub finished_bytes : {answer : ℕ} {state before after : List ℕ} (running : Running) (finished : Finished) → running ≡ running_of state
-    → Finishes running finished → answer ≡ packed (outcome_says finished.outcome) → after ≡ digest_kept finished.outcome before finished.digest
+pub finished_bytes : {answer : ℕ} {state before after : List ℕ} (running : Running) (finished : Result (List ℕ) Refusal) → running ≡ running_of state
+    → Finishes running finished → answer ≡ packed (outcome_says finished) → after ≡ digest_kept before finished
     → FinishedBytes answer state before after
 finished_bytes running finished e f a l =
     record { finished = finished; finishes = subst (λ (r : Running). Finishes r finished) e f; outcome = a; left = l }

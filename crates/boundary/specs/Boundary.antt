@@ -1,5 +1,6 @@
 -- How answers, sessions and descriptions pass the C boundary: as numbers and bytes.
-use Rattle.std.specs.Prelude.{ℕ, ◌+◌, ◌*◌, ◌%◌, ◌^◌, ◌≡◌, not, cond, List, [], ◌∷◌, ◌++◌, get_or, take, drop, replicate, eqb}
+use Rattle.std.specs.Prelude.{ℕ, ◌+◌, ◌*◌, ◌%◌, ◌^◌, ◌≡◌, not, cond, List, [], ◌∷◌, ◌++◌, get_or, take, drop, replicate, eqb, Result, Ok, Err, Option, Some, None}
+use Rattle.layout.specs.declared.Refusal.{Refusal}
 use Rattle.number.specs.declared.Range.{Range}
 use Rattle.number.specs.declared.Level.{Level}
 use Rattle.layout.specs.declared.Kind.{Kind}
@@ -10,11 +11,7 @@ use Rattle.layout.specs.declared.Difi.{Difi}
 use Rattle.layout.specs.declared.Ivfc.{Ivfc}
 use Rattle.layout.specs.declared.Dpfs.{Dpfs}
 use Rattle.layout.specs.declared.Partition.{Partition}
-use Rattle.layout.specs.declared.Second.{Second}
-use Rattle.layout.specs.declared.Second.TheVariants.{Missing, There}
 use Rattle.layout.specs.declared.Container.{Container}
-use Rattle.layout.specs.declared.Opened.{Opened}
-use Rattle.layout.specs.declared.Opened.TheVariants as opening
 use Rattle.layout.specs.Refusals.{Said}
 use Rattle.steps.specs.declared.Ending.{Ending}
 use Rattle.steps.specs.declared.Ending.TheVariants as ending
@@ -94,14 +91,14 @@ unfoldable pub partition_numbers : Slot → Partition → List ℕ
 partition_numbers slot p = piece_numbers slot p.difi ++ levels_numbers p.ivfc p.dpfs
 
 -- B's are 0 where there is no B
-abbrev pub second_numbers : Slot → Second → List ℕ
-second_numbers slot Missing = replicate 36 0
-second_numbers slot (There b) = partition_numbers slot b
+abbrev pub second_numbers : Slot → Option Partition → List ℕ
+second_numbers slot None = replicate 36 0
+second_numbers slot (Some b) = partition_numbers slot b
 
 unfoldable pub description : Container → List ℕ
 description c = header_numbers c.header ++ partition_numbers c.header.a c.a ++ second_numbers c.header.b c.b
 
 -- an image that does not open leaves the numbers alone
-abbrev pub description_left : Opened → (before : List ℕ) → List ℕ
-description_left (opening.Valid c) before = description c
-description_left (opening.Refused r) before = before
+abbrev pub description_left : Result Container Refusal → (before : List ℕ) → List ℕ
+description_left (Ok c) before = description c
+description_left (Err r) before = before

@@ -3,8 +3,9 @@ ghost use Rattle.std.specs.Prelude.{◌≡◌, ◌++◌, ◌+◌, ◌≤◌, len
 ghost use Rattle.std.proofs.lemmas.List.Edits.{sets};
 ghost use Rattle.boundary.specs.Boundary.{kind_number, header_numbers, piece_numbers, levels_numbers, partition_numbers, second_numbers, description, description_left};
 
-use layout::{Container, Difi, Dpfs, Header, Ivfc, Kind, Opened, Partition, Second, Slot};
+use layout::{Container, Difi, Dpfs, Header, Ivfc, Kind, Partition, Refusal, Slot};
 
+// The C interface has a kind as a number.
 fn kind_number(kind: Kind) -> u64
     ensures { result ≡ kind_number kind }
 {
@@ -88,11 +89,7 @@ fn put_numbers(target: &mut [u64], at: usize, run: &[u64])
     requires { at + length run.now ≤ length target.old }
     ensures { target.new ≡ sets target.old at run.now }
 {
-    let mut k = 0;
-    while k < run.len() {
-        target[at + k] = run[k];
-        k += 1;
-    }
+    target[at..at + run.len()].copy_from_slice(run);
 }
 
 fn join_partition(pieces: [u64; 13], levels: [u64; 23]) -> [u64; 36]
@@ -114,12 +111,12 @@ fn partition_numbers(slot: Slot, p: Partition) -> [u64; 36]
 }
 
 // All 0 where there is no B.
-fn second_numbers(slot: Slot, second: Second) -> [u64; 36]
+fn second_numbers(slot: Slot, second: Option<Partition>) -> [u64; 36]
     ensures { result ≡ second_numbers slot second }
 {
     match second {
-        Second::Missing => [0; 36],
-        Second::There(p) => partition_numbers(slot, p),
+        None => [0; 36],
+        Some(p) => partition_numbers(slot, p),
     }
 }
 
@@ -147,11 +144,11 @@ fn numbers_of(c: Container) -> [u64; 80]
 }
 
 // The numbers after an opening: an image that does not open leaves them alone.
-pub fn description_left(answer: Opened, before: [u64; 80]) -> [u64; 80]
+pub fn description_left(answer: Result<Container, Refusal>, before: [u64; 80]) -> [u64; 80]
     ensures { result ≡ description_left answer before }
 {
     match answer {
-        Opened::Valid(c) => numbers_of(c),
-        Opened::Refused(_) => before,
+        Ok(c) => numbers_of(c),
+        Err(_) => before,
     }
 }

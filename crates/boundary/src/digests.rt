@@ -1,23 +1,20 @@
 // A running digest as its caller keeps it: 104 bytes, the eight words of its hash value, its block, and the count of all bytes.
 ghost use Rattle.std.specs.Prelude.{◌≡◌, ℕ, ◌+◌, ◌*◌, ◌≤◌, ◌<◌, length, get_or};
 ghost use Rattle.number.specs.Fields.{le32};
-ghost use Rattle.boundary.specs.Digests.{running_of, StateLeft, digest_kept};
+ghost use Rattle.boundary.specs.Digests.{running_of, StateLeft};
 
-use layout::Outcome;
+use layout::Refusal;
 use number::fields::{field4, field8};
 use number::runs::copy_into;
 use sha256::running::Running;
 use signing::blocks::put_field;
-use signing::digests::{Fed, Finished};
 
 fn words_of(bytes: [u8; 104]) -> [u32; 8]
     ensures { result ≡ (running_of bytes).hash }
 {
     let mut hash = [0u32; 8];
-    let mut k = 0;
-    while k < 8 {
-        hash[k] = field4(&bytes, 4 * k);
-        k += 1;
+    for (k, word) in hash.iter_mut().enumerate() {
+        *word = field4(&bytes, 4 * k);
     }
     hash
 }
@@ -28,7 +25,7 @@ pub fn running_of(bytes: [u8; 104]) -> Running
 {
     let hash = words_of(bytes);
     let mut rest = [0u8; 64];
-    copy_into(&mut rest, 0, &bytes[32..96]);
+    rest.copy_from_slice(&bytes[32..96]);
     let total = field8(&bytes, 96);
     Running { hash, rest, total }
 }
@@ -45,10 +42,8 @@ fn put_words(bytes: &mut [u8], hash: [u32; 8])
     requires { 32 ≤ length bytes.old }
     ensures { (k : ℕ) → k < 8 → le32 bytes.new (4 * k) ≡ get_or hash k 0 }
 {
-    let mut k = 0;
-    while k < 8 {
-        put_word(bytes, 4 * k, hash[k]);
-        k += 1;
+    for (k, word) in hash.iter().enumerate() {
+        put_word(bytes, 4 * k, *word);
     }
 }
 
@@ -73,26 +68,11 @@ pub fn state_bytes(running: Running) -> [u8; 104]
 }
 
 // The bytes after a piece: of an accepted one the digest after it, else those before.
-pub fn state_left(fed: Fed, before: [u8; 104]) -> [u8; 104]
-    ensures { StateLeft fed.outcome fed.running before result }
+pub fn state_left(fed: Result<Running, Refusal>, before: [u8; 104]) -> [u8; 104]
+    ensures { StateLeft fed before result }
 {
-    let outcome = fed.outcome;
-    match outcome {
-        Outcome::Accepted => {
-            let running = fed.running;
-            state_bytes(running)
-        }
-        Outcome::Refused(_) => before,
-    }
-}
-
-// The 32 bytes after the final call: the digest, or those before.
-pub fn digest_left(finished: Finished, before: [u8; 32]) -> [u8; 32]
-    ensures { result ≡ digest_kept finished.outcome before finished.digest }
-{
-    let outcome = finished.outcome;
-    match outcome {
-        Outcome::Accepted => finished.digest,
-        Outcome::Refused(_) => before,
+    match fed {
+        Ok(running) => state_bytes(running),
+        Err(_) => before,
     }
 }

@@ -4,6 +4,7 @@ ghost use Rattle.boundary.specs.Boundary.{kind_of};
 
 use layout::Kind;
 
+// No `TryFrom`: the C interface takes any number for a kind.
 pub fn kind_of(number: u64) -> Kind
     ensures { result ≡ kind_of number }
 {

@@ -4,6 +4,7 @@ ghost use Rattle.boundary.specs.Signers.{signer_as, signer_of};
 
 use signing::{ExtdataFile, Signer};
 
+// By numbers, since the C interface lends numbers; any four of them are a signer.
 fn signer_as(kind: u64, id: u64, file: u64, folder: u64) -> Signer
     ensures { result ≡ signer_as kind id file folder }
 {

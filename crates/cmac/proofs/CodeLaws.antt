@@ -1,17 +1,18 @@
 -- The steps of AES-CMAC as the code takes them. Assumes nothing.
-use mathlib.Core.Path.{◌≡◌, sym, ap, ap₂, ◌∙◌}
+use mathlib.Core.Path.{◌≡◌, refl, sym, ap, ap₂, ◌∙◌}
 use mathlib.Core.Bool.{not, ◌&&◌}
 use mathlib.Core.List.{List, ◌++◌, append-nil}
-use Prim.Native.Nat.{ℕ, ◌+◌, ◌-◌, ◌*◌, ◌/◌, ◌%◌, ◌^◌, ◌<◌, ◌≤◌, min, max}
+use Prim.Native.Nat.{ℕ, zero, suc, ◌+◌, ◌-◌, ◌*◌, ◌/◌, ◌%◌, ◌^◌, ◌<◌, ◌≤◌, min, max}
 use native.Mathlib.Omega.{arith}
 use native.Mathlib.Numerals.{add-one}
 use native.Mathlib.Decide.{ℕ_discrete, dec_lt}
 use lib.Bits.{xor_zero_r}
 use borrow.Author.Tests.{eq-eqb, ne_eqb, le-leb, lt-leb}
 use lib.Dec.{eqb}
-use lib.ListN.{length, get_or, set, take, drop, replicate, length-take, length-drop, get_or-eq_default}
-use lib.Seq.{sets}
-use Rattle.number.proofs.ListLaws.{part_rest, length_part, over_zeros, byte_over_zeros}
+use lib.ListN.{length, get_or, set, take, drop, replicate, length-take, length-drop, length-append, get_or-eq_default}
+use lib.Seq.{take_at, drop_at, take_all, drop-append-le, take-append-le, length-take-le, drop-drop}
+use Rattle.std.proofs.lemmas.List.{drop-replicate, take-append-drop}
+use Rattle.number.proofs.ListLaws.{byte_over_zeros}
 use Rattle.aes.specs.Field.{◌⊕◌}
 use Rattle.aes.specs.Aes.{xor, aes128}
 use Rattle.cmac.specs.Cmac.{shifted, Zero, doubled, K1, padding, blocks, flag, block_of, last_block, chained, cmac}
@@ -28,8 +29,8 @@ last_byte x h =
 
 -- ---- up to a block of bytes, and zeros after them
 
-pub fill_done : (t b : List ℕ) → length t ≤ 16 → b ≡ sets Zero 0 t → b ≡ t ++ replicate (16 - length t) 0
-fill_done t b h e = e ∙ over_zeros 16 t h
+pub fill_done : (t b : List ℕ) → b ≡ t → b ++ drop (length t) Zero ≡ t ++ replicate (16 - length t) 0
+fill_done t b e = ap₂ (λ (x y : List ℕ). x ++ y) e (drop-replicate (length t) 16 0)
 
 pub pad_done : (t b : List ℕ) → length t < 16 → b ≡ t ++ replicate (16 - length t) 0 → set b (length t) 0x80 ≡ padding t
 unfolding padding
@@ -73,21 +74,34 @@ module _ (key t k b : List ℕ) (e : k ≡ K1 key) where
 
 -- ---- the blocks before the last
 
-module _ (m : List ℕ) (i : ℕ) (h : i * 16 + 16 ≤ length m) where
-  part : take (i * 16 + 16 - i * 16) (drop (i * 16) m) ≡ block_of m i
-  part =
-      let n : i * 16 + 16 - i * 16 ≡ 16 = omega arith in
-      ap (λ (k : ℕ). take k (drop (i * 16) m)) n
+-- one more, of what is left of m after n blocks
+pub chain_more : (key m t rest x b y z : List ℕ) (n k : ℕ) → k ≡ n + 1 → n * 16 ≤ length m → t ++ rest ≡ drop (n * 16) m → length t ≡ 16
+    → x ≡ chained key m n → b ≡ t ++ replicate (16 - length t) 0 → y ≡ xor x b → z ≡ aes128 key y
+    → (z ≡ chained key m k) × (rest ≡ drop (k * 16) m) × (k * 16 ≤ length m)
+unfolding chained
+chain_more key m t rest x b y z n k e h left l ex eb ey ez =
+    let long : length (t ++ rest) ≡ length m - n * 16 = ap length left ∙ length-drop (n * 16) m in
+    let here : t ≡ block_of m n = sym (take_at t rest 16 l) ∙ ap (take 16) left in
+    let s : n * 16 + 16 ≡ k * 16 = omega arith in (
+      rw (e, add-one) (ez ∙ ap (aes128 key) (ey ∙ ap₂ xor ex (fill_whole t b l eb ∙ here))),
+      sym (drop_at t rest 16 l) ∙ ap (drop 16) left ∙ drop-drop 16 (n * 16) m ∙ ap (λ (i : ℕ). drop i m) s,
+      omega (arith, long, length-append t rest),
+    )
 
-  pub part_length : length (take (i * 16 + 16 - i * 16) (drop (i * 16) m)) ≡ 16
-  part_length = ap length part ∙ length_part m (i * 16) 16 h
+pub chain_done : (key m rest x : List ℕ) (n : ℕ) → n * 16 ≤ length m → rest ≡ drop (n * 16) m → length rest < 16 → x ≡ chained key m n
+    → x ≡ chained key m (length m / 16)
+chain_done key m rest x n h left l ex =
+    let e : n ≡ length m / 16 = omega (arith, ap length left ∙ length-drop (n * 16) m) in
+    ex ∙ ap (chained key m) e
 
-  pub chain_more : (key x b y z : List ℕ) → x ≡ chained key m i
-      → b ≡ take (i * 16 + 16 - i * 16) (drop (i * 16) m) ++ replicate (16 - length (take (i * 16 + 16 - i * 16) (drop (i * 16) m))) 0
-      → y ≡ xor x b → z ≡ aes128 key y → z ≡ chained key m (i + 1)
-  unfolding chained
-  chain_more key x b y z ex eb ey ez =
-      rw add-one (ez ∙ ap (aes128 key) (ey ∙ ap₂ xor ex (fill_whole _ b part_length eb ∙ part)))
+-- what comes after the blocks does not matter
+chained_front : (key p q : List ℕ) (n : ℕ) → n * 16 ≤ length p → chained key (p ++ q) n ≡ chained key p n
+unfolding chained
+chained_front key p q zero h = refl
+chained_front key p q (suc n) h =
+    ap (aes128 key)
+    (ap₂ xor (chained_front key p q n (omega arith))
+    (ap (take 16) (drop-append-le (n * 16) p q (omega arith)) ∙ take-append-le 16 (drop (n * 16) p) q (simp length-drop (omega arith))))
 
 -- ---- the end
 
@@ -100,12 +114,16 @@ whole L n k en ek = go (ℕ_discrete L 0) (ℕ_discrete (L % 16) 0)
     go (no p) (yes q) = rw (ne_eqb L 0 p, eq-eqb (L % 16) 0 q, eq-eqb k 16 (omega arith))
     go (no p) (no q) = rw (ne_eqb L 0 p, ne_eqb (L % 16) 0 q, ne_eqb k 16 (λ z. omega arith))
 
-pub cmac_end : (key m x l y r : List ℕ) (n : ℕ) → n ≡ blocks m - 1 → x ≡ chained key m n
-    → l ≡ last_block key (eqb (length (take (length m - n * 16) (drop (n * 16) m))) 16) (take (length m - n * 16) (drop (n * 16) m))
-    → y ≡ xor l x → r ≡ aes128 key y → r ≡ cmac key m
+pub cmac_end : (key m f t x l y r : List ℕ) (n : ℕ) → n ≡ blocks m - 1 → f ≡ take (n * 16) m → t ≡ drop (n * 16) m
+    → x ≡ chained key f (length f / 16) → l ≡ last_block key (eqb (length t) 16) t → y ≡ xor l x → r ≡ aes128 key y → r ≡ cmac key m
 unfolding cmac
-cmac_end key m x l y r n en ex el ey er =
-    let t : take (length m - n * 16) (drop (n * 16) m) ≡ block_of m n = part_rest m (n * 16) 16 (omega arith) in
-    let f : flag m ≡ eqb (length (block_of m n)) 16 = whole (length m) n (length (block_of m n)) en (simp (length-take, length-drop)) in
-    let w : l ≡ last_block key (flag m) (block_of m n) = rw (f, ← t) el in
-    rw (← en) (er ∙ ap (aes128 key) (ey ∙ ap₂ xor w ex))
+cmac_end key m f t x l y r n en ef et ex el ey er =
+    let i : n * 16 ≤ length m = omega arith in
+    let long : length f ≡ n * 16 = ap length ef ∙ length-take-le (n * 16) m i in
+    let k : length f / 16 ≡ n = omega arith in
+    let front : chained key f n ≡ chained key m n =
+    sym (chained_front key f t n (omega arith)) ∙ ap (λ (s : List ℕ). chained key s n) (ap₂ (λ (p q : List ℕ). p ++ q) ef et ∙ take-append-drop (n * 16) m) in
+    let b : t ≡ block_of m n = et ∙ sym (take_all 16 (drop (n * 16) m) (simp length-drop (omega arith))) in
+    let w : flag m ≡ eqb (length (block_of m n)) 16 = whole (length m) n (length (block_of m n)) en (simp (length-take, length-drop)) in
+    let last : l ≡ last_block key (flag m) (block_of m n) = rw (w, ← b) el in
+    rw (← en) (er ∙ ap (aes128 key) (ey ∙ ap₂ xor last (ex ∙ ap (chained key f) k ∙ front)))

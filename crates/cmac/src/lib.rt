@@ -8,7 +8,6 @@ ghost use Rattle.cmac.specs.Cmac as Spec;
 
 use aes::cipher::encrypt;
 use aes::state::xor;
-use number::runs::copy_into;
 
 pub mod subkeys;
 
@@ -18,7 +17,7 @@ fn filled(bytes: &[u8]) -> [u8; 16]
     ensures { result ≡ bytes.now ++ replicate (16 - length bytes.now) 0 }
 {
     let mut block = [0u8; 16];
-    copy_into(&mut block, 0, bytes);
+    block[..bytes.len()].copy_from_slice(bytes);
     block
 }
 
@@ -46,20 +45,16 @@ fn last_block(key: [u8; 16], rest: &[u8]) -> [u8; 16]
     }
 }
 
-// The first n blocks, chained.
-fn chain(key: [u8; 16], message: &[u8], n: usize) -> [u8; 16]
-    requires { n * 16 ≤ length message.now }
-    ensures { result ≡ Spec.chained key message.now n }
+// Whole blocks, chained.
+fn chain(key: [u8; 16], front: &[u8]) -> [u8; 16]
+    ensures { result ≡ Spec.chained key front.now (length front.now / 16) }
 {
     let mut x = [0u8; 16];
-    let mut i = 0;
-    while i < n {
-        let at = i * 16;
-        let end = at + 16;
-        let y = xor(x, filled(&message[at..end]));
+    for block in front.chunks_exact(16) {
+        let y = xor(x, filled(block));
+        // By a name of its own: the check does not cover a call whose result is laid in an array that is there.
         let z = encrypt(key, y);
         x = z;
-        i += 1;
     }
     x
 }
@@ -68,7 +63,7 @@ fn chain(key: [u8; 16], message: &[u8], n: usize) -> [u8; 16]
 fn before_last(n: usize) -> usize
     ensures { result ≡ max 1 ((n + 15) / 16) - 1 }
 {
-    if n == 0 { 0 } else { (n - 1) / 16 }
+    n.saturating_sub(1) / 16
 }
 
 // The code of a message.
@@ -76,8 +71,8 @@ pub fn code(key: [u8; 16], message: &[u8]) -> [u8; 16]
     ensures { result ≡ Spec.cmac key message.now }
 {
     let n = before_last(message.len());
-    let at = n * 16;
-    let x = chain(key, message, n);
-    let last = last_block(key, &message[at..]);
+    let (front, rest) = message.split_at(n * 16);
+    let x = chain(key, front);
+    let last = last_block(key, rest);
     encrypt(key, xor(last, x))
 }

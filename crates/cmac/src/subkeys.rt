@@ -16,10 +16,8 @@ fn shifted(x: [u8; 16]) -> [u8; 16]
     ensures { result ≡ Spec.shifted x }
 {
     let mut out = x;
-    let mut i = 0;
-    while i < 15 {
+    for i in 0..15 {
         out[i] = moved(x[i], x[i + 1]);
-        i += 1;
     }
     out[15] = moved(x[15], 0);
     out

@@ -4,39 +4,21 @@
 
 use container::reading::{count_verified, open};
 use layout::refusals::number_of;
-use layout::{Container, Kind, Opened, Partition, Refusal, Second};
+use layout::{Container, Partition, Refusal};
 use number::blocks::block_count;
 use std::io;
 use std::io::Read;
-use steps::Count;
 
 const LONGEST_INPUT: usize = 65_536;
 
-// What came from standard input: so many bytes, or a read failed.
-#[derive(Clone, Copy)]
-enum Input {
-    Bytes(usize),
-    Failed,
-}
-
-fn print(rt: &impl Print, text: &[u8]) -> io::Result<()> {
-    rt.write_all(text)
-}
-
-fn print_number(rt: &impl Print, n: u64) -> io::Result<()> {
-    print!(rt; "{n}")
-}
-
 fn print_refusal(rt: &impl Print, r: Refusal) -> io::Result<()> {
-    print(rt, b"refused ")?;
-    print_number(rt, number_of(r))?;
-    print(rt, b"\n")
+    println!(rt; "refused {}", number_of(r))
 }
 
-fn print_count(rt: &impl Print, count: Count) -> io::Result<()> {
+fn print_count(rt: &impl Print, count: Result<u64, Refusal>) -> io::Result<()> {
     match count {
-        Count::Blocks(n) => print_number(rt, n),
-        Count::Refused(r) => print_refusal(rt, r),
+        Ok(n) => print!(rt; "{n}"),
+        Err(r) => print_refusal(rt, r),
     }
 }
 
@@ -44,83 +26,62 @@ fn print_count(rt: &impl Print, count: Count) -> io::Result<()> {
 fn print_partition(
     rt: &impl Print,
     image: &[u8],
-    name: &[u8],
+    name: &str,
     q: u64,
     p: Partition,
 ) -> io::Result<()> {
     let level = p.ivfc.level4;
-    print(rt, name)?;
-    print(rt, b" level4 ")?;
-    print_number(rt, level.size)?;
-    print(rt, b" blocks ")?;
-    print_number(rt, block_count(level))?;
-    print(rt, b" stands ")?;
+    print!(rt;
+        "{name} level4 {} blocks {} stands ",
+        level.size,
+        block_count(level)
+    )?;
     print_count(rt, count_verified(image, q))?;
-    print(rt, b"\n")
-}
-
-fn print_kind(rt: &impl Print, kind: Kind) -> io::Result<()> {
-    match kind {
-        Kind::Disa => print(rt, b"DISA\n"),
-        Kind::Diff => print(rt, b"DIFF\n"),
-    }
-}
-
-fn print_table(rt: &impl Print, flag: u32) -> io::Result<()> {
-    if flag == 0 {
-        print(rt, b"table primary\n")
-    } else {
-        print(rt, b"table secondary\n")
-    }
+    println!(rt;)
 }
 
 fn print_container(rt: &impl Print, image: &[u8], c: Container) -> io::Result<()> {
     let h = c.header;
-    let kind = h.kind;
-    print_kind(rt, kind)?;
-    print(rt, b"partitions ")?;
-    print_number(rt, h.count as u64)?;
-    print(rt, b"\n")?;
-    print_table(rt, h.flag)?;
-    let a = c.a;
-    print_partition(rt, image, b"A", 0, a)?;
-    let second = c.b;
-    match second {
-        Second::Missing => Ok(()),
-        Second::There(b) => print_partition(rt, image, b"B", 1, b),
+    let table = if h.flag == 0 { "primary" } else { "secondary" };
+    println!(rt; "{}", h.kind)?;
+    println!(rt; "partitions {}", h.count)?;
+    println!(rt; "table {table}")?;
+    print_partition(rt, image, "A", 0, c.a)?;
+    match c.b {
+        None => Ok(()),
+        Some(b) => print_partition(rt, image, "B", 1, b),
     }
 }
 
 fn describe(rt: &impl Print, image: &[u8]) -> io::Result<()> {
     match open(image) {
-        Opened::Valid(c) => print_container(rt, image, c),
-        Opened::Refused(r) => print_refusal(rt, r),
+        Ok(c) => print_container(rt, image, c),
+        Err(r) => print_refusal(rt, r),
     }
 }
 
-// Takes the input until the buffer is full or the input ends.
-fn take_input(input: &mut impl Read, buffer: &mut [u8]) -> Input {
+// Takes the input until the buffer is full or the input ends, and says how many bytes there were.
+// (Another program has the like: a crate for this one function would be no plainer.)
+fn take_input(input: &mut impl Read, buffer: &mut [u8]) -> io::Result<usize> {
     let mut n = 0;
+    // A `while`: each turn goes on by as many bytes as the read gave.
     while n < buffer.len() {
-        let Ok(more) = input.read(&mut buffer[n..]) else {
-            return Input::Failed;
-        };
+        let more = input.read(&mut buffer[n..])?;
         if more == 0 {
-            return Input::Bytes(n);
+            break;
         }
         n += more;
     }
-    Input::Bytes(n)
+    Ok(n)
 }
 
 fn main(rt: HostRuntime) -> io::Result<()> {
     let mut buffer = [0u8; LONGEST_INPUT + 1];
-    let input = take_input(&mut rt.reader(), &mut buffer);
-    let Input::Bytes(n) = input else {
-        return print(&rt, b"cannot read\n");
+    let Ok(n) = take_input(&mut rt.reader(), &mut buffer) else {
+        return println!(rt; "cannot read");
     };
     if LONGEST_INPUT < n {
-        return print(&rt, b"too long\n");
+        return println!(rt; "too long");
     }
     describe(&rt, &buffer[..n])
 }

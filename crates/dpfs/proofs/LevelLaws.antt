@@ -26,16 +26,6 @@ use Rattle.number.specs.Fields.{test_bit}
 
 -- ---- places
 
-pub place_second : (l : Level) (second : Bool) (y : ℕ) → second ≡ true → l.offset + l.size + y ≡ place l second y
-unfolding place
-place_second l true y e = refl
-place_second l false y e = absurd (true≢false (sym e))
-
-pub place_first : (l : Level) (second : Bool) (y : ℕ) → second ≡ false → l.offset + y ≡ place l second y
-unfolding place
-place_first l true y e = absurd (true≢false e)
-place_first l false y e = omega arith
-
 pub place_inj : (l : Level) (c d : Bool) (y z : ℕ) → y < l.size → z < l.size → place l c y ≡ place l d z → (c ≡ d) × (y ≡ z)
 unfolding place
 place_inj l true true y z h k e = (refl, omega arith)

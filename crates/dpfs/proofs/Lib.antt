@@ -7,3 +7,4 @@ pub mod TreeLaws
 pub mod PutLaws
 pub mod BeginLaws
 pub mod SpaceLaws
+pub mod SelectionLaws

@@ -4,16 +4,16 @@ use mathlib.Core.List.{List}
 use mathlib.Core.Bool.{Bool, beq, true, false, not, cond, true≢false}
 use Prim.Native.Nat.{ℕ, ◌+◌, ◌-◌, ◌*◌, ◌≤◌, ◌<◌, min}
 use native.Mathlib.Omega.{arith}
-use native.Mathlib.Decide.{dec_lt}
-use native.Mathlib.Nat.{suc-mul, add-sub_cancel_left}
+use native.Mathlib.Nat.{suc-mul, add-sub_cancel_left, div-lt_iff_lt-mul, le-div_iff_mul-le}
 use native.Mathlib.Numerals.{add-one}
+use borrow.Author.Count.{below_more}
 use lib.ListN.{length, get_or, take, drop, length-take, length-drop}
 use lib.Pow.{pow_mono, shr_le}
 use Rattle.number.specs.declared.Level.{Level}
 use Rattle.number.specs.Blocks.{block_size, block_of}
 use Rattle.number.specs.Bytes.{bytes}
 use Rattle.number.proofs.ListLaws.{length_part, get_d_part, bytes_is, length_bytes}
-use Rattle.number.proofs.BlockLaws.{block_starts, block_ends, block_of_byte}
+use Rattle.number.proofs.BlockLaws.{size_pos, block_starts, block_ends, block_mono, block_of_byte}
 use Rattle.dpfs.specs.declared.Tree.{Tree}
 use Rattle.dpfs.specs.Tree.{place, level_byte, select3, content}
 use Rattle.dpfs.specs.Rules.{WellPlaced, OneCopy, block_rest}
@@ -119,29 +119,41 @@ run_is tree image half second x end to r w some most fits one e =
 
 -- ---- how far it goes
 
--- x's block
-pub one_block : (tree : Tree) (image : List ℕ) (half second : Bool) (x end to : ℕ) → x < end → second ≡ select3 tree image half (block_of tree.level3 x)
-    → to ≡ x + block_rest tree x end → (x < to) × (to ≤ end) × OneCopy tree image half second x to
-one_block tree image half second x end to h e t = (
-  omega (arith, run_some tree x end h),
-  omega (arith, run_ends tree x end h),
-  λ y f m.
-      let k : x + (y - x) ≡ y = omega arith in
-      ap (λ (z : ℕ). select3 tree image half (block_of tree.level3 z)) (sym k)
-      ∙ ap (select3 tree image half) (run_block tree x end h (y - x) (omega arith)) ∙ sym e,
-)
-
-pub no_other : (a b : Bool) → not (beq a b) ≡ false → b ≡ a
+pub no_other : (a b : Bool) → not (beq a b) ≡ false → a ≡ b
 no_other true true e = refl
 no_other true false e = absurd (true≢false e)
 no_other false true e = absurd (true≢false e)
 no_other false false e = refl
 
--- and the next one
-pub two_pieces : (tree : Tree) (image : List ℕ) (half second : Bool) (x middle to : ℕ)
-    → OneCopy tree image half second x middle → OneCopy tree image half second middle to → OneCopy tree image half second x to
-two_pieces tree image half second x middle to a b y f m = go (dec_lt y middle)
-  where
-    go : Dec (y < middle) → select3 tree image half (block_of tree.level3 y) ≡ second
-    go (yes l) = a y f l
-    go (no l) = b y (omega arith) m
+-- the blocks from x's on that come before b are all read in one copy
+abbrev pub Read : Tree → List ℕ → (half second : Bool) → (x b : ℕ) → Type 0
+Read tree image half second x b =
+    (k : ℕ) → k < b → block_of tree.level3 x ≤ k → select3 tree image half k ≡ second
+
+module _ (tree : Tree) (image : List ℕ) (half second : Bool) (x : ℕ) where
+  pub first_read : (b : ℕ) → second ≡ select3 tree image half (block_of tree.level3 x) → b ≡ block_of tree.level3 x + 1 → Read tree image half second x b
+  first_read b e s k m f =
+      let p : k ≡ block_of tree.level3 x = omega arith in
+      ap (select3 tree image half) p ∙ sym e
+
+  pub next_read : (b : ℕ) (copy : Bool) → Read tree image half second x b → copy ≡ select3 tree image half b → not (beq copy second) ≡ false
+      → Read tree image half second x (b + 1)
+  next_read b copy all e n = below_more _ _ all (λ _. sym e ∙ no_other copy second n)
+
+  -- so are the bytes from x on that come before b's first one, and those before the end, if its last one lies in a block before b
+  pub run_to_block : (b end size : ℕ) → Read tree image half second x b → size ≡ block_size tree.level3 → block_of tree.level3 x < b
+      → b ≤ block_of tree.level3 (end - 1) → x < end → (x < b * size) × (b * size ≤ end) × OneCopy tree image half second x (b * size)
+  unfolding block_of
+  run_to_block b end size all e h k some = rw e (
+    (div-lt_iff_lt-mul {x = x} {y = b} (size_pos tree.level3)).0 h,
+    omega (arith, (le-div_iff_mul-le {x = b} {y = end - 1} (size_pos tree.level3)).0 k),
+    λ y f m. all (block_of tree.level3 y) ((div-lt_iff_lt-mul {x = y} {y = b} (size_pos tree.level3)).1 m) (block_mono tree.level3 x y f),
+  )
+
+  pub run_to_end : (b end : ℕ) → Read tree image half second x b → block_of tree.level3 (end - 1) < b → x < end
+      → (x < end) × (end ≤ end) × OneCopy tree image half second x end
+  run_to_end b end all h some = (
+    some,
+    omega arith,
+    λ y f m. all (block_of tree.level3 y) (omega (arith, block_mono tree.level3 y (end - 1) (omega arith))) (block_mono tree.level3 x y f),
+  )

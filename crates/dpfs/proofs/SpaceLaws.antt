@@ -1,6 +1,8 @@
 -- The whole image: what changes only its free bytes keeps every tree's live content and what is free; a tree's changes keep the other tree, and
 -- those in the inactive table keep both, from either half. Assumes nothing.
-use mathlib.Core.Path.{◌≡◌, sym, subst}
+use Rattle.std.specs.Prelude.{Some}
+use Rattle.std.proofs.lemmas.Option.{same_Some}
+use mathlib.Core.Path.{◌≡◌, sym, ◌∙◌, subst}
 use mathlib.Core.List.{List}
 use mathlib.Core.Bool.{Bool, true, false}
 use mathlib.Core.Logic.{inl, inr, ◌↔◌}
@@ -37,12 +39,13 @@ beyond_avoids r tree b = record {
   level3 = beyond r tree.level3 b.level3;
 }
 
--- places of the second tree, where there are two
-if_two : {F : ℕ → Type 0} {tree : Tree} {image : List ℕ} (space : Space) → (space.two ≡ true → Spares F tree image) → Spares (λ i. (space.two ≡ true) × F i) tree image
-if_two space s = record {
-  level1 = λ y h f. (s f.0).level1 y h f.1;
-  level2 = λ y h f. (s f.0).level2 y h f.1;
-  level3 = λ z h f. (s f.0).level3 z h f.1;
+-- places of the second tree, where there is one
+in_b : {tree : Tree} {image : List ℕ} (space : Space) (F : Tree → ℕ → Type 0) → ((b : Tree) → space.b ≡ Some b → Spares (F b) tree image)
+    → Spares (λ i. (b : Tree) × (space.b ≡ Some b) × F b i) tree image
+in_b space F s = record {
+  level1 = λ y h f. (s f.0 f.1).level1 y h f.2;
+  level2 = λ y h f. (s f.0 f.1).level2 y h f.2;
+  level3 = λ z h f. (s f.0 f.1).level3 z h f.2;
 }
 
 module _ (space : Space) (n : ℕ) (r : SpaceRules space n) where
@@ -51,33 +54,33 @@ module _ (space : Space) (n : ℕ) (r : SpaceRules space n) where
   spares_a image =
       spares_or (avoids_spares image (beyond_avoids space.table space.a r.beyond))
       (spares_or (free_spares space.a n r.a image)
-      (if_two space (λ e. avoids_spares image (aside_avoids space.a space.b image (r.aside e)))))
+      (in_b space (λ b. FreeIn b image) (λ b e. avoids_spares image (aside_avoids space.a b image (r.aside b e)))))
 
-  spares_b : (image : List ℕ) → space.two ≡ true → Spares (Free space image) space.b image
+  spares_b : (image : List ℕ) (b : Tree) → space.b ≡ Some b → Spares (Free space image) b image
   unfolding Free
-  spares_b image e =
-      spares_or (avoids_spares image (beyond_avoids space.table space.b (r.beyond_b e)))
-      (spares_or (avoids_spares image (aside_avoids space.b space.a image (aside_swap space.a space.b (r.aside e))))
-      (if_two space (λ _. free_spares space.b n (r.b e) image)))
+  spares_b image b e =
+      spares_or (avoids_spares image (beyond_avoids space.table b (r.beyond_b b e)))
+      (spares_or (avoids_spares image (aside_avoids b space.a image (aside_swap space.a b (r.aside b e))))
+      (in_b space (λ t. FreeIn t image) (λ t f. subst (λ (u : Tree). Spares (FreeIn u image) b image) (same_Some b t (sym e ∙ f)) (free_spares b n (r.b b e) image))))
 
   pub among_placed : (tree : Tree) → Among tree space → WellPlaced tree n
   among_placed tree (inl e) = subst (λ (t : Tree). WellPlaced t n) (sym e) r.a
-  among_placed tree (inr (two, e)) = subst (λ (t : Tree). WellPlaced t n) (sym e) (r.b two)
+  among_placed tree (inr e) = r.b tree e
 
   -- what is free in the image spares what is live in each tree
   pub space_spares : (tree : Tree) → Among tree space → (image : List ℕ) → Spares (Free space image) tree image
   space_spares tree (inl e) image = subst (λ (t : Tree). Spares (Free space image) t image) (sym e) (spares_a image)
-  space_spares tree (inr (two, e)) image = subst (λ (t : Tree). Spares (Free space image) t image) (sym e) (spares_b image two)
+  space_spares tree (inr e) image = spares_b image tree e
 
   pub table_avoids : (tree : Tree) → Among tree space → Avoids (InRange space.table) tree
   table_avoids tree (inl e) = subst (Avoids (InRange space.table)) (sym e) (beyond_avoids space.table space.a r.beyond)
-  table_avoids tree (inr (two, e)) = subst (Avoids (InRange space.table)) (sym e) (beyond_avoids space.table space.b (r.beyond_b two))
+  table_avoids tree (inr e) = beyond_avoids space.table tree (r.beyond_b tree e)
 
 -- what is free in a tree, or lies in the inactive table, is free in the image
 pub tree_free : (space : Space) (tree : Tree) → Among tree space → (image : List ℕ) (i : ℕ) → FreeIn tree image i → Free space image i
 unfolding Free
 tree_free space tree (inl e) image i f = inr (inl (subst (λ (t : Tree). FreeIn t image i) e f))
-tree_free space tree (inr (two, e)) image i f = inr (inr (two, subst (λ (t : Tree). FreeIn t image i) e f))
+tree_free space tree (inr e) image i f = inr (inr (tree, e, f))
 
 pub table_free : (space : Space) (image : List ℕ) (i : ℕ) → InRange space.table i → Free space image i
 unfolding Free
@@ -101,7 +104,7 @@ module _ (space : Space) (tree : Tree) (image : List ℕ) (r : SpaceRules space 
 -- ---- the frame: any image that differs in bytes that spare the trees has the same free bytes
 
 module _ (space : Space) (n : ℕ) (r : SpaceRules space n) (F : ℕ → Type 0) (image after : List ℕ) (k : Keeps F image after)
-    (a : Spares F space.a image) (b : space.two ≡ true → Spares F space.b image) where
+    (a : Spares F space.a image) (s : (b : Tree) → space.b ≡ Some b → Spares F b image) where
   pub spared_space : (i : ℕ) → Free space after i ↔ Free space image i
   unfolding Free
   spared_space i = (back, on)
@@ -109,18 +112,18 @@ module _ (space : Space) (n : ℕ) (r : SpaceRules space n) (F : ℕ → Type 0)
       free_a : FreeIn space.a after i ↔ FreeIn space.a image i
       free_a = spared_free space.a n r.a F image after a k i
 
-      free_b : space.two ≡ true → FreeIn space.b after i ↔ FreeIn space.b image i
-      free_b e = spared_free space.b n (r.b e) F image after (b e) k i
+      free_b : (b : Tree) → space.b ≡ Some b → FreeIn b after i ↔ FreeIn b image i
+      free_b b e = spared_free b n (r.b b e) F image after (s b e) k i
 
       back : Free space after i → Free space image i
       back (inl f) = inl f
       back (inr (inl f)) = inr (inl (free_a.0 f))
-      back (inr (inr (e, f))) = inr (inr (e, (free_b e).0 f))
+      back (inr (inr (b, e, f))) = inr (inr (b, e, (free_b b e).0 f))
 
       on : Free space image i → Free space after i
       on (inl f) = inl f
       on (inr (inl f)) = inr (inl (free_a.1 f))
-      on (inr (inr (e, f))) = inr (inr (e, (free_b e).1 f))
+      on (inr (inr (b, e, f))) = inr (inr (b, e, (free_b b e).1 f))
 
 -- so has one that differs in free bytes alone
 pub kept_free : (space : Space) (n : ℕ) → SpaceRules space n → (image after : List ℕ) → Keeps (Free space image) image after → (i : ℕ)

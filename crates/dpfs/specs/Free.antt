@@ -1,6 +1,6 @@
 -- The bytes that a session may store to before its commit, beside an external level 4: the inactive table, and for each partition the other half of
 -- level 1 and the copies of level 2 and 3 blocks that the live selection does not name.
-use Rattle.std.specs.Prelude.{◌≡◌, List, Bool, true, not, ◌⊎◌, ℕ, ◌+◌, ◌≤◌, ◌<◌}
+use Rattle.std.specs.Prelude.{◌≡◌, List, Bool, Some, not, ◌⊎◌, ℕ, ◌+◌, ◌≤◌, ◌<◌}
 use Rattle.number.specs.declared.Range.{Range}
 use Rattle.number.specs.declared.Level.{Level}
 use Rattle.number.specs.Blocks.{block_of}
@@ -21,7 +21,7 @@ FreeIn tree image i =
 abbrev pub InRange : Range → (i : ℕ) → Type 0
 InRange a i = (a.offset ≤ i) × (i < a.offset + a.size)
 
--- of the whole image: a space is its inactive table, and the trees of partition A and, where there are two, of B
+-- of the whole image: a space is its inactive table, and the trees of partition A and, where there is one, of B
 unfoldable pub Free : Space → List ℕ → (i : ℕ) → Type 0
 Free space image i =
-    InRange space.table i ⊎ (FreeIn space.a image i ⊎ ((space.two ≡ true) × FreeIn space.b image i))
+    InRange space.table i ⊎ (FreeIn space.a image i ⊎ ((b : Tree) × (space.b ≡ Some b) × FreeIn b image i))

@@ -1,5 +1,5 @@
 -- What the functions of this crate ask of a tree and of an image's space; an image that opens keeps to it.
-use Rattle.std.specs.Prelude.{◌≡◌, List, Bool, true, ◌⊎◌, ℕ, ◌+◌, ◌-◌, ◌*◌, ◌%◌, ◌≤◌, ◌<◌, min}
+use Rattle.std.specs.Prelude.{◌≡◌, List, Bool, Some, ◌⊎◌, ℕ, ◌+◌, ◌-◌, ◌*◌, ◌%◌, ◌≤◌, ◌<◌, min}
 use Rattle.number.specs.declared.Range.{Range}
 use Rattle.number.specs.declared.Level.{Level}
 use Rattle.number.specs.Blocks.{block_size, blocks, block_of}
@@ -55,13 +55,13 @@ pub record SpaceRules (space : Space) (n : ℕ) : Type 0 where
   pub a : WellPlaced space.a n
   pub table : space.table.offset + space.table.size ≤ n
   pub beyond : BeyondAll space.table space.a
-  pub b : space.two ≡ true → WellPlaced space.b n
-  pub aside : space.two ≡ true → Aside space.a space.b
-  pub beyond_b : space.two ≡ true → BeyondAll space.table space.b
+  pub b : (b : Tree) → space.b ≡ Some b → WellPlaced b n
+  pub aside : (b : Tree) → space.b ≡ Some b → Aside space.a b
+  pub beyond_b : (b : Tree) → space.b ≡ Some b → BeyondAll space.table b
 
 -- a tree is one of the space's
 abbrev pub Among : Tree → Space → Type 0
-Among tree space = (tree ≡ space.a) ⊎ ((space.two ≡ true) × (tree ≡ space.b))
+Among tree space = (tree ≡ space.a) ⊎ (space.b ≡ Some tree)
 
 -- how many bytes of level 3 from x on lie in x's block, up to `end`
 unfoldable pub block_rest : Tree → (x end : ℕ) → ℕ

@@ -3,9 +3,8 @@ ghost use Rattle.std.specs.Prelude.{◌≡◌, ℕ, ◌+◌, ◌*◌, ◌<◌, �
 ghost use Rattle.number.specs.Blocks.{block_of};
 ghost use Rattle.dpfs.specs.Bits.{bit_byte, bit_place, bit_of, flip_bit};
 ghost use Rattle.dpfs.specs.Tree.{place, select2, select3};
-ghost use Rattle.dpfs.specs.Rules.{WellPlaced};
 
-use super::Tree;
+use super::Selection;
 use number::Level;
 use number::blocks::block_of;
 
@@ -21,10 +20,8 @@ pub fn place_of(l: Level, second: bool, y: u64) -> u64
     requires { l.offset + 2 * l.size + y < 18446744073709551616 }
     ensures { result ≡ place l second y }
 {
-    if second {
-        return l.offset + l.size + y;
-    }
-    l.offset + y
+    let skipped = if second { l.size } else { 0 };
+    l.offset + skipped + y
 }
 
 // Bit n of a half, fetched by the one byte that holds it: the half may end with that byte.
@@ -56,31 +53,33 @@ fn half_of(image: &[u8], l: Level, second: bool) -> &[u8]
     &image[start..end]
 }
 
-// Which copy of level 2's block j a half of level 1 names.
-pub fn copy2(tree: Tree, image: &[u8], half: bool, j: u64) -> bool
-    requires { (WellPlaced tree (length image.now)) × (bit_byte j < tree.level1.size) }
-    ensures { result ≡ select2 tree image.now half j }
-{
-    bit_in(half_of(image, tree.level1, half), j)
-}
+impl Selection<'_> {
+    // Which copy of level 2's block j the half of level 1 names.
+    pub fn copy2(self, j: u64) -> bool
+        requires { bit_byte j < self.tree.level1.size }
+        ensures { result ≡ select2 self.entry.tree self.entry.image.now self.entry.half j }
+    {
+        bit_in(half_of(self.image, self.tree.level1, self.half), j)
+    }
 
-// Where the byte of level 2 stands that holds bit k, seen from a half of level 1.
-pub fn bit_place(tree: Tree, image: &[u8], half: bool, k: u64) -> u64
-    requires { (WellPlaced tree (length image.now)) × (bit_byte k < tree.level2.size) }
-    ensures { result ≡ place tree.level2 (select2 tree image.now half (block_of tree.level2 (bit_byte k))) (bit_byte k) }
-{
-    let l = tree.level2;
-    let y = byte_of_bit(k);
-    let second = copy2(tree, image, half, block_of(l, y));
-    place_of(l, second, y)
-}
+    // Where the byte of level 2 stands that holds bit k.
+    pub fn bit_place(self, k: u64) -> u64
+        requires { bit_byte k < self.tree.level2.size }
+        ensures { result ≡ place self.entry.tree.level2 (select2 self.entry.tree self.entry.image.now self.entry.half (block_of self.entry.tree.level2 (bit_byte k))) (bit_byte k) }
+    {
+        let l = self.tree.level2;
+        let y = byte_of_bit(k);
+        let second = self.copy2(block_of(l, y));
+        place_of(l, second, y)
+    }
 
-// Which copy of level 3's block k level 2 names, seen from a half of level 1.
-pub fn copy3(tree: Tree, image: &[u8], half: bool, k: u64) -> bool
-    requires { (WellPlaced tree (length image.now)) × (bit_byte k < tree.level2.size) }
-    ensures { result ≡ select3 tree image.now half k }
-{
-    let l = tree.level2;
-    let second = copy2(tree, image, half, block_of(l, byte_of_bit(k)));
-    bit_in(half_of(image, l, second), k)
+    // Which copy of level 3's block k level 2 names.
+    pub fn copy3(self, k: u64) -> bool
+        requires { bit_byte k < self.tree.level2.size }
+        ensures { result ≡ select3 self.entry.tree self.entry.image.now self.entry.half k }
+    {
+        let l = self.tree.level2;
+        let second = self.copy2(block_of(l, byte_of_bit(k)));
+        bit_in(half_of(self.image, l, second), k)
+    }
 }

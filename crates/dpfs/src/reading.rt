@@ -3,11 +3,10 @@ ghost use Rattle.std.specs.Prelude.{◌≡◌, cond, ◌+◌, ◌-◌, ◌≤◌
 ghost use Rattle.number.specs.Bytes.{bytes};
 ghost use Rattle.number.specs.Blocks.{block_of};
 ghost use Rattle.dpfs.specs.Tree.{select3, content};
-ghost use Rattle.dpfs.specs.Rules.{WellPlaced, OneCopy, block_rest};
+ghost use Rattle.dpfs.specs.Rules.{OneCopy, block_rest};
 
-use super::Tree;
-use super::bits::copy3;
-use number::blocks::{block_of, block_size, lesser};
+use super::{Selection, Tree};
+use number::blocks::{block_of, block_size};
 
 // The live copy of a block is handed back as a part of whichever of two lent halves the bit names.
 pub fn live_part<'a>(
@@ -20,10 +19,8 @@ pub fn live_part<'a>(
     requires { (from ≤ to) × (to ≤ length first.now) × (to ≤ length second.now) }
     ensures { result.now ≡ take (to - from) (drop from (cond bit second.now first.now)) }
 {
-    if bit {
-        return &second[from..to];
-    }
-    &first[from..to]
+    let half = if bit { second } else { first };
+    &half[from..to]
 }
 
 // Where the bytes of level 3 from x on end that lie in x's block, and come before end.
@@ -32,42 +29,46 @@ pub fn block_end(tree: Tree, x: u64, end: u64) -> u64
     ensures { result ≡ x + block_rest tree x end }
 {
     let l = tree.level3;
-    lesser(end, (block_of(l, x) + 1) * block_size(l))
+    end.min((block_of(l, x) + 1) * block_size(l))
 }
 
-// Where the bytes of level 3 from x on end that stand in one piece of the image, in the copy that `second` names, and come before end: with
-// the last block in a row whose live copy is that one.
-fn run_end(tree: Tree, image: &[u8], half: bool, second: bool, x: u64, end: u64) -> u64
-    requires { (WellPlaced tree (length image.now)) × (x < end) × (end ≤ tree.level3.size) × (second ≡ select3 tree image.now half (block_of tree.level3 x)) }
-    ensures { (x < result) × (result ≤ end) × (OneCopy tree image.now half second x result) }
-{
-    let mut to = block_end(tree, x, end);
-    while to < end {
-        if copy3(tree, image, half, block_of(tree.level3, to)) != second {
-            return to;
+impl<'a> Selection<'a> {
+    // Where the bytes of level 3 from x on end that stand in one piece of the image, in the copy that `second` names, and come before end: with
+    // the last block in a row that is read in that copy.
+    fn run_end(self, second: bool, x: u64, end: u64) -> u64
+        requires { (x < end) × (end ≤ self.tree.level3.size) × (second ≡ select3 self.tree self.image.now self.half (block_of self.tree.level3 x)) }
+        ensures { (x < result) × (result ≤ end) × (OneCopy self.entry.tree self.entry.image.now self.entry.half second x result) }
+    {
+        let l = self.tree.level3;
+        let first = block_of(l, x);
+        let last = block_of(l, end - 1);
+        for b in first + 1..=last {
+            if self.copy3(b) != second {
+                return b * block_size(l);
+            }
         }
-        to = block_end(tree, to, end);
+        end
     }
-    to
-}
 
-// The bytes of level 3 from x on, as far as they stand in one piece and no further than end.
-pub fn run(tree: Tree, image: &[u8], half: bool, x: u64, end: u64) -> &[u8]
-    requires { (WellPlaced tree (length image.now)) × (x < end) × (end ≤ tree.level3.size) }
-    ensures { (result.now ≡ bytes (content tree image.now half) x (length result.now)) × (0 < length result.now) × (length result.now ≤ end - x) }
-{
-    let l = tree.level3;
-    let second = copy3(tree, image, half, block_of(l, x));
-    let from = x as usize;
-    let to = run_end(tree, image, half, second, x, end) as usize;
-    let start = l.offset as usize;
-    let middle = start + l.size as usize;
-    let stop = middle + l.size as usize;
-    live_part(
-        &image[start..middle],
-        &image[middle..stop],
-        second,
-        from,
-        to,
-    )
+    // The bytes of level 3 from x on, as far as they stand in one piece and no further than end.
+    pub fn run(self, x: u64, end: u64) -> &'a [u8]
+        requires { (x < end) × (end ≤ self.tree.level3.size) }
+        ensures { (result.now ≡ bytes (content self.entry.tree self.entry.image.now self.entry.half) x (length result.now)) × (0 < length result.now) × (length result.now ≤ end - x) }
+    {
+        let l = self.tree.level3;
+        let image = self.image;
+        let second = self.copy3(block_of(l, x));
+        let from = x as usize;
+        let to = self.run_end(second, x, end) as usize;
+        let start = l.offset as usize;
+        let middle = start + l.size as usize;
+        let stop = middle + l.size as usize;
+        live_part(
+            &image[start..middle],
+            &image[middle..stop],
+            second,
+            from,
+            to,
+        )
+    }
 }

@@ -1,16 +1,15 @@
 -- Marks of blocks that are known to be verified. Assumes nothing.
-use mathlib.Core.Path.{◌≡◌, refl, sym, ap, subst, ◌∙◌}
-use mathlib.Core.Bool.{Bool, true, false, cond, ◌||◌}
-use mathlib.Core.Logic.{◌⊎◌, inl, inr, ⊎_elim}
+use mathlib.Core.Path.{◌≡◌, sym, ap, subst, ◌∙◌}
+use mathlib.Core.Bool.{Bool, true, cond}
+use mathlib.Core.Logic.{⊎_elim}
 use mathlib.Core.List.{List}
 use Prim.Native.Nat.{ℕ, ◌+◌, ◌*◌, ◌≤◌, ◌<◌}
 use native.Mathlib.Omega.{arith}
 use native.Mathlib.Decide.{dec_lt, ℕ_discrete}
-use lib.Dec.{eqb}
-use borrow.Author.Tests.{eq-eqb, ne_eqb, eqb-true}
+use borrow.Author.Tests.{eq-eqb, ne_eqb}
 use Rattle.ivfc.specs.declared.View.{View}
 use Rattle.ivfc.specs.Views.{verified}
-use Rattle.number.specs.Marks.{marked, Marks}
+use Rattle.number.specs.Marks.{marked}
 use Rattle.entries.specs.Known.{mark_of, Adds, Knows}
 
 pub mark_data : (i b : ℕ) → i ≡ 4 → 2 * b ≡ mark_of i b
@@ -35,14 +34,6 @@ mark_one i b j a o p q r e = go (ℕ_discrete i 4) (ℕ_discrete j 4)
         hash h (yes l) m = absurd (omega arith)
         hash h (no l) (yes m) = absurd (omega arith)
         hash h (no l) (no m) = (omega arith, omega arith)
-
--- a mark that was set is added
-pub adds_set : (known after : List ℕ) (mark : ℕ) → Marks known mark after → Adds known mark after
-adds_set known after mark m x h = go (eqb x mark) refl (sym (m x) ∙ h)
-  where
-    go : (b : Bool) → eqb x mark ≡ b → (b || marked known x) ≡ true → (x ≡ mark) ⊎ (marked known x ≡ true)
-    go true e k = inl (eqb-true x mark e)
-    go false e k = inr k
 
 -- the mark of a verified block may be added
 pub knows_more : (view : View) (image known after : List ℕ) (i b mark : ℕ) → mark ≡ mark_of i b → 1 ≤ i → i ≤ 4 → true ≡ verified view image i b

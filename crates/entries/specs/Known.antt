@@ -1,8 +1,7 @@
 -- Which blocks of a view are known to be verified: a mark for each. These are no part of the paper: the contracts of reading cite them.
-use Rattle.std.specs.Prelude.{ℕ, ◌+◌, ◌*◌, ◌≤◌, ◌≡◌, true, cond, ◌⊎◌, List, eqb, length}
+use Rattle.std.specs.Prelude.{ℕ, ◌+◌, ◌*◌, ◌≤◌, ◌≡◌, true, cond, ◌⊎◌, List, eqb}
 use Rattle.ivfc.specs.declared.View.{View}
 use Rattle.ivfc.specs.Views.{verified}
-use Rattle.ivfc.specs.Rules.{ViewRules}
 use Rattle.number.specs.Marks.{marked}
 
 -- the mark of block b of level i: level 4 has the even ones, the hash levels share the odd ones
@@ -16,8 +15,3 @@ Adds known mark after = (x : ℕ) → marked after x ≡ true → (x ≡ mark) �
 -- a block that has a mark is verified
 abbrev pub Knows : View → (image known : List ℕ) → Type 0
 Knows view image known = (i b : ℕ) → 1 ≤ i → i ≤ 4 → marked known (mark_of i b) ≡ true → verified view image i b ≡ true
-
--- what reading a view asks
-pub record Legible (view : View) (image known : List ℕ) : Type 0 where
-  pub rules : ViewRules view (length image)
-  pub knows : Knows view image known

@@ -2,11 +2,10 @@
 ghost use Rattle.std.specs.Prelude.{◌≡◌, ◌≤◌, ◌<◌};
 ghost use Rattle.number.specs.Blocks.{blocks};
 ghost use Rattle.ivfc.specs.Views.{level_of, verified};
-ghost use Rattle.entries.specs.Known.{mark_of, Adds, Knows, Legible};
+ghost use Rattle.entries.specs.Known.{mark_of, Adds, Knows};
 
-use ivfc::View;
+use ivfc::Reader;
 use ivfc::gathering::level_of;
-use ivfc::matching::block_matches;
 use ivfc::verifying::parent_of;
 use number::marks::{is_marked, set_mark};
 
@@ -23,18 +22,16 @@ fn add_mark(known: &mut [u8], mark: u64)
     ensures { Adds known.old mark known.new }
 {
     let at = (mark / 8) as usize;
-    if at < known.len() {
-        if !is_marked(known, mark) {
-            set_mark(known, mark);
-        }
+    if at < known.len() && !is_marked(known, mark) {
+        set_mark(known, mark);
     }
 }
 
 // Whether a block of a level is verified, by ivfc's own recursion. What is known to be verified is not hashed again, and what is found to be is known
 // from then on.
-pub fn vouched(view: View, image: &[u8], known: &mut [u8], i: u64, b: u64) -> bool
-    requires { (Legible view image.now known.old) × (i ≤ 4) × (b < blocks (level_of view i)) }
-    ensures { (result ≡ verified view image.now i b) × (Knows view image.now known.new) }
+pub fn vouched(reader: Reader<'_>, known: &mut [u8], i: u64, b: u64) -> bool
+    requires { (Knows reader.view reader.image.now known.old) × (i ≤ 4) × (b < blocks (level_of reader.view i)) }
+    ensures { (result ≡ verified reader.entry.view reader.entry.image.now i b) × (Knows reader.entry.view reader.entry.image.now known.new) }
 {
     if i == 0 {
         return true;
@@ -43,11 +40,11 @@ pub fn vouched(view: View, image: &[u8], known: &mut [u8], i: u64, b: u64) -> bo
     if is_marked(known, mark) {
         return true;
     }
-    if !block_matches(view, image, i, b) {
+    if !reader.block_matches(i, b) {
         return false;
     }
-    let upper = parent_of(level_of(view, i - 1), b);
-    if !vouched(view, image, known, i - 1, upper) {
+    let upper = parent_of(level_of(reader.view, i - 1), b);
+    if !vouched(reader, known, i - 1, upper) {
         return false;
     }
     add_mark(known, mark);

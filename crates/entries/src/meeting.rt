@@ -1,16 +1,16 @@
 // Meeting an entry: its number is judged, then it is read whole, and it is marked and recorded.
 ghost use Rattle.std.specs.Prelude.{◌≡◌, ◌+◌, ◌*◌, ◌^◌, ◌≤◌, ◌<◌, length};
 ghost use Rattle.number.specs.Fields.{le32};
-ghost use Rattle.ivfc.specs.Rules.{ViewRules};
 ghost use Rattle.views.specs.Versions.{version_of};
 ghost use Rattle.number.specs.Marks.{marked};
 ghost use Rattle.names.specs.Entries.{admit, place};
 ghost use Rattle.names.specs.Walks.{met_by, leaves, unvisited};
-ghost use Rattle.entries.specs.Known.{Knows, Legible};
+ghost use Rattle.entries.specs.Known.{Knows};
 
 use super::reading::{read_at, store_name, word_at};
-use ivfc::View;
-use names::{Reach, Table, Walked};
+use ivfc::Reader;
+use names::places::NAME;
+use names::{EntryError, Table};
 use number::marks::{is_marked, set_mark};
 
 fn place_of(t: Table, e: u64) -> u64
@@ -21,20 +21,25 @@ fn place_of(t: Table, e: u64) -> u64
 }
 
 // An entry is met, where `again` says that it was met before: its number is judged, then it is read whole.
-pub fn reach(view: View, image: &[u8], known: &mut [u8], t: Table, again: bool, e: u64) -> Reach
-    requires { (Legible view image.now known.old) × (1 ≤ t.size) × (t.place + t.size * t.max ≤ view.level4.size) }
-    ensures { (result ≡ admit (version_of view image.now).verified view.level4.log t again e) × (Knows view image.now known.new) }
+pub fn reach(
+    reader: Reader<'_>,
+    known: &mut [u8],
+    t: Table,
+    again: bool,
+    e: u64,
+) -> Result<u64, EntryError>
+    requires { (Knows reader.view reader.image.now known.old) × (1 ≤ t.size) × (t.place + t.size * t.max ≤ reader.view.level4.size) }
+    ensures { (result ≡ admit (version_of reader.entry.view reader.entry.image.now).verified reader.entry.view.level4.log t again e) × (Knows reader.entry.view reader.entry.image.now known.new) }
 {
     if again | ((t.count <= e) | (t.max <= e)) {
-        return Reach::Invalid;
+        return Err(EntryError::Invalid);
     }
-    read_at(view, image, known, place_of(t, e), t.size)
+    read_at(reader, known, place_of(t, e), t.size)
 }
 
 // Meets an entry: where it may be met it is marked, and its record put into the row.
 pub fn meet(
-    view: View,
-    image: &[u8],
+    reader: Reader<'_>,
     known: &mut [u8],
     t: Table,
     kind: u8,
@@ -42,28 +47,22 @@ pub fn meet(
     row: &mut [u8],
     e: u64,
     n: u64,
-) -> Walked
-    requires { (Legible view image.now known.old) × (0x28 ≤ t.size) × (t.place + t.size * t.max ≤ view.level4.size) × (t.max ≤ 8 * length marks.old) × (n + unvisited t marks.old < 2 ^ 64) }
-    ensures answer { result ≡ met_by (admit (version_of view image.now).verified view.level4.log t (marked marks.old e) e) n }
-    ensures state { leaves (admit (version_of view image.now).verified view.level4.log t (marked marks.old e) e) t kind e n (version_of view image.now).bytes marks.old row.old marks.new row.new }
-    ensures knows { Knows view image.now known.new }
+) -> Result<u64, EntryError>
+    requires { (Knows reader.view reader.image.now known.old) × (0x28 ≤ t.size) × (t.place + t.size * t.max ≤ reader.view.level4.size) × (t.max ≤ 8 * length marks.old) × (n + unvisited t marks.old < 2 ^ 64) }
+    ensures answer { result ≡ met_by (admit (version_of reader.entry.view reader.entry.image.now).verified reader.entry.view.level4.log t (marked marks.old e) e) n }
+    ensures state { leaves (admit (version_of reader.entry.view reader.entry.image.now).verified reader.entry.view.level4.log t (marked marks.old e) e) t kind e n (version_of reader.entry.view reader.entry.image.now).bytes marks.old row.old marks.new row.new }
+    ensures knows { Knows reader.entry.view reader.entry.image.now known.new }
 {
-    let found = reach(view, image, known, t, is_marked(marks, e), e);
-    match found {
-        Reach::Invalid => Walked::Invalid,
-        Reach::Unverified(b) => Walked::Unverified(b),
-        Reach::At(at) => {
-            set_mark(marks, e);
-            store_name(view, image, row, n, kind, e, at + 4);
-            Walked::Met(n + 1)
-        }
-    }
+    let at = reach(reader, known, t, is_marked(marks, e), e)?;
+    set_mark(marks, e);
+    store_name(reader, row, n, kind, e, at + NAME);
+    Ok(n + 1)
 }
 
 // The four bytes at an offset of an entry.
-pub fn field_of(view: View, image: &[u8], t: Table, e: u64, offset: u64) -> u64
-    requires { (ViewRules view (length image.now)) × (place t e + offset + 4 ≤ view.level4.size) }
-    ensures { result ≡ le32 (version_of view image.now).bytes (place t e + offset) }
+pub fn field_of(reader: Reader<'_>, t: Table, e: u64, offset: u64) -> u64
+    requires { place t e + offset + 4 ≤ reader.view.level4.size }
+    ensures { result ≡ le32 (version_of reader.entry.view reader.entry.image.now).bytes (place t e + offset) }
 {
-    word_at(view, image, place_of(t, e) + offset)
+    word_at(reader, place_of(t, e) + offset)
 }

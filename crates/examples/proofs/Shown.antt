@@ -1,4 +1,6 @@
 -- The examples hold. Assumes nothing.
+use Rattle.layout.specs.declared.Partition.{Partition}
+use Rattle.std.specs.Prelude.{Result, Ok, Err}
 use mathlib.Core.Path.{◌≡◌, refl, sym, ap, ◌∙◌}
 use mathlib.Core.Bool.{Bool, true, false, cond}
 use mathlib.Core.Logic.{◌≢◌}
@@ -15,8 +17,6 @@ use Rattle.number.specs.Fields.{le16, le32, test_bit}
 use Rattle.number.specs.Ranges.{part}
 use Rattle.number.proofs.ListLaws.{get_d_part}
 use Rattle.layout.specs.declared.Header.{Header}
-use Rattle.layout.specs.declared.JudgedHeader.TheVariants.{GoodHeader, BadHeader}
-use Rattle.layout.specs.declared.JudgedPartition.TheVariants.{BadPartition}
 use Rattle.layout.specs.declared.Refusal.{Refusal}
 use Rattle.layout.specs.declared.Refusal.TheVariants.{Length, Format, Selection, Geometry, TableHash, Descriptor, Placement, NoPartition, OutOfRange, Unverified, SessionState, Stale, SignerKind, Signature, InvalidEntry, NoSave, BlankSize, NothingToRevert, DigestTooLong}
 use Rattle.layout.specs.Refusals.{Said, refuses}
@@ -33,7 +33,6 @@ use Rattle.dpfs.specs.Tree.{place, level_byte, select2, select3, content}
 use Rattle.dpfs.proofs.BitLaws.{bit_in_byte}
 use Rattle.ivfc.specs.declared.View.{View}
 use Rattle.ivfc.specs.Blocks.{block, entry, parent}
-use Rattle.layout.specs.declared.Outcome.TheVariants.{Accepted, Refused}
 use Rattle.steps.specs.Reading.{refuse_outside, read_outcome}
 use Rattle.steps.specs.Sessions.{ends_outcome, write_outcome}
 use Rattle.steps.proofs.ReadLaws.{inside_passes, nothing_touched}
@@ -60,21 +59,21 @@ selected : (header : List ℕ) → flag_bytes header ≡ 1 ∷ 0 ∷ 0 ∷ 0 ∷
 unfolding selection_allowed diff_header
 selected header e = rw (flag_value header 1 0 0 0 e)
 
-not_three : (length : ℕ) (h : Header) → selection_allowed h ≡ true → judged_fields length h ≢ BadHeader Selection
+not_three : (length : ℕ) (h : Header) → selection_allowed h ≡ true → judged_fields length h ≢ Err Selection
 unfolding judged_fields
 not_three length h s r = go (geometry_allowed length h) (rw s at r)
   where
-    go : (t : Bool) → cond t (GoodHeader h) (BadHeader Geometry) ≡ BadHeader Selection → ⊥
+    go : (t : Bool) → cond t (Ok h) (Err Geometry) ≡ Err Selection → ⊥
     go true z = let n : ◌≡◌ {A = ℕ} 0 1 = cc in omega arith
     go false z = let n : ◌≡◌ {A = ℕ} 0 1 = cc in omega arith
 
 passes : (length : ℕ) (header : List ℕ) → opens_with header diff_magic ≡ true → flag_bytes header ≡ 1 ∷ 0 ∷ 0 ∷ 0 ∷ []
-    → judged_header length header ≢ BadHeader Selection
+    → judged_header length header ≢ Err Selection
 unfolding judged_header kind_in
 passes length header q e r = not_three length (diff_header header) (selected header e) (rw (one_kind header q, q) at r)
 
 refused : (length : ℕ) (header : List ℕ) → opens_with header diff_magic ≡ true
-    → flag_bytes header ≡ 0 ∷ 1 ∷ 0 ∷ 0 ∷ [] → judged_header length header ≡ BadHeader Selection
+    → flag_bytes header ≡ 0 ∷ 1 ∷ 0 ∷ 0 ∷ [] → judged_header length header ≡ Err Selection
 unfolding judged_header kind_in judged_fields selection_allowed diff_header
 refused length header q e = rw (one_kind header q, q, flag_value header 0 1 0 0 e)
 
@@ -89,7 +88,7 @@ too_many l half s k h e = let f : 7039 ≤ 8 * half = rw (s, k) at e in omega ar
 
 seven : (size : ℕ) (d : List ℕ) → form_allowed d (partition_fields d) ≡ true
     → (partition_fields d).dpfs.level3.size ≡ 0x1B7F000 → (partition_fields d).dpfs.level3.log ≡ 12 → (partition_fields d).dpfs.level2.size ≡ 0x36C
-    → judged_partition size d ≡ BadPartition Placement
+    → judged_partition size d ≡ Err Placement
 unfolding judged_partition
 seven size d form s k half = rw (judged_partition, form, not_placed (places_allowed size (length d) (partition_fields d)) refl) (either (leb difi_size (length d)))
   where
@@ -98,7 +97,7 @@ seven size d form s k half = rw (judged_partition, form, not_placed (places_allo
         (partition_guarantees size d (partition_fields d) form e).bits3)
     not_placed false e = e
 
-    either : (t : Bool) → cond t (BadPartition Placement) (BadPartition Placement) ≡ BadPartition Placement
+    either : (t : Bool) → ◌≡◌ {A = Result Partition Refusal} (cond t (Err Placement) (Err Placement)) (Err Placement)
     either true = refl
     either false = refl
 
@@ -120,12 +119,12 @@ unfolding bit_byte bit_place test_bit
 fourth half = bit_in_byte half 0x1234
 
 outside : (view : View) (image : List ℕ) (place n : ℕ) → view.level4.size ≡ 0x1000 → leb (place + n) 0x1000 ≡ false
-    → Both (Refused OutOfRange) view image place n
+    → Both (Err OutOfRange) view image place n
 unfolding read_outcome write_outcome refuse_outside
 outside view image place n e h = (rw (e, h), rw (e, h))
 
 -- nothing is touched, so no block stops it
-accepted : (view : View) (image : List ℕ) → view.level4.size ≡ 0x1000 → Both Accepted view image 0x1000 0
+accepted : (view : View) (image : List ℕ) → view.level4.size ≡ 0x1000 → Both (Ok tt) view image 0x1000 0
 unfolding read_outcome write_outcome ends_outcome
 accepted view image e =
     let fits = le-leb (0x1000 + 0) view.level4.size (omega arith) in

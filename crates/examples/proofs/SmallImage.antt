@@ -1,4 +1,5 @@
 -- A small DIFF image with one partition, computed: it opens, and its block of level 4 is verified. Assumes nothing.
+use Rattle.std.specs.Prelude.{Ok, None}
 use mathlib.Core.Path.{◌≡◌, refl, ap, ◌∙◌}
 use mathlib.Core.Bool.{true}
 use mathlib.Core.List.{List, [], ◌∷◌, ◌++◌}
@@ -11,10 +12,6 @@ use Rattle.number.specs.Blocks.{blocks, block_size, block_of, block_length}
 use Rattle.sha256.specs.Sha256.{K, words, next, extend, schedule, T₁, T₂, round, rounds, added, compress, bytes64, padding, padded, hashed, digest_bytes, digest_from, sha256}
 use Rattle.layout.specs.declared.Container.{Container}
 use Rattle.layout.specs.declared.Kind.TheVariants.{Diff}
-use Rattle.layout.specs.declared.JudgedHeader.TheVariants.{GoodHeader}
-use Rattle.layout.specs.declared.JudgedPartition.TheVariants.{GoodPartition}
-use Rattle.layout.specs.declared.Second.TheVariants.{Missing}
-use Rattle.layout.specs.declared.Opened.TheVariants as opening
 use Rattle.layout.specs.Every.{onto, every}
 use Rattle.layout.specs.Magic.{opens_with, diff_magic, difi_magic, ivfc_magic, dpfs_magic}
 use Rattle.layout.specs.Headers.{header_bytes, diff_header, selection_allowed, geometry_allowed, judged_fields, judged_header, kind_in}
@@ -86,7 +83,7 @@ unfoldable pub small_container : Container
 small_container = record {
   header = diff_header header;
   a = partition_fields table;
-  b = Missing;
+  b = None;
 }
 
 size_good : length_allowed (length small_image) ≡ true
@@ -105,15 +102,15 @@ table_is : part small_image (active (diff_header header)) ≡ table
 unfolding small_image part table header table_hash master level1 level2 level3 active diff_header le64 le32 le16
 table_is = refl
 
-header_good : judged_header (length small_image) header ≡ GoodHeader (diff_header header)
+header_good : judged_header (length small_image) header ≡ Ok (diff_header header)
 unfolding small_image table header table_hash master level1 level2 level3 judged_header kind_in judged_fields selection_allowed geometry_allowed placed clear fits apart inside opens_with part same_bytes diff_header le64 le32 le16
 header_good = refl
 
-first_good : judged_partition 272 (part table (record { offset = 0; size = 0x12C })) ≡ GoodPartition (partition_fields table)
+first_good : judged_partition 272 (part table (record { offset = 0; size = 0x12C })) ≡ Ok (partition_fields table)
 unfolding table master judged_partition partition_fields difi_fields ivfc_fields dpfs_fields form_allowed onto every difi_allowed ivfc_allowed dpfs_allowed size_allowed level_allowed places_allowed pieces_placed levels_placed all_enough enough_bits enough_entries blocks block_size placed clear fits apart inside opens_with part same_bytes le64 le32 le16
 first_good = refl
 
-pub small_opens : opened small_image ≡ opening.Valid small_container
+pub small_opens : opened small_image ≡ Ok small_container
 unfolding small_container table_matches diff_header le64 le32 le16 header table_hash
 small_opens = opens small_image small_container (record {
   size = size_good;

@@ -1,15 +1,13 @@
 -- 01's examples P1 to P12, against the definitions that the contracts cite: one table, one claim (proofs/Shown.antt, `shown`).
-use Rattle.std.specs.Prelude.{◌≡◌, ◌≢◌, Bool, true, List, [], ◌∷◌, ℕ, ◌-◌, ◌/◌, ◌%◌, ◌^◌, replicate, get_or, eqb}
+use Rattle.std.specs.Prelude.{◌≡◌, ◌≢◌, Bool, true, List, [], ◌∷◌, ℕ, ◌-◌, ◌/◌, ◌%◌, ◌^◌, replicate, get_or, eqb, Result, Ok, Err}
 use Rattle.number.specs.declared.Level.{Level}
 use Rattle.number.specs.Blocks.{blocks}
 use Rattle.number.specs.Bytes.{bytes}
 use Rattle.number.specs.Fields.{test_bit}
 use Rattle.number.specs.Ranges.{part}
-use Rattle.layout.specs.declared.JudgedHeader.TheVariants.{BadHeader}
 use Rattle.layout.specs.declared.Refusal.{Refusal}
 use Rattle.layout.specs.declared.Refusal.TheVariants.{Selection, Placement, OutOfRange}
 use Rattle.layout.specs.Refusals.{refuses}
-use Rattle.layout.specs.declared.JudgedPartition.TheVariants.{BadPartition}
 use Rattle.layout.specs.Magic.{opens_with, diff_magic}
 use Rattle.layout.specs.Headers.{diff_header, judged_header}
 use Rattle.layout.specs.Tables.{active}
@@ -19,8 +17,6 @@ use Rattle.dpfs.specs.Bits.{bit_of, bit_byte, bit_place}
 use Rattle.dpfs.specs.Tree.{place, select2, select3, content}
 use Rattle.ivfc.specs.declared.View.{View}
 use Rattle.ivfc.specs.Blocks.{block, entry, parent}
-use Rattle.layout.specs.declared.Outcome.{Outcome}
-use Rattle.layout.specs.declared.Outcome.TheVariants.{Accepted, Refused}
 use Rattle.steps.specs.Reading.{read_outcome}
 use Rattle.steps.specs.Sessions.{write_outcome}
 
@@ -37,7 +33,7 @@ abbrev pub flag_bytes : List ℕ → List ℕ
 flag_bytes header = part header (record { offset = 0x30; size = 4 })
 
 -- what a read and a write of n bytes at a place are answered, as far as 9 and 10 go
-abbrev pub Both : Outcome → (view : View) → (image : List ℕ) → (place n : ℕ) → Type 0
+abbrev pub Both : Result (Unit {0}) Refusal → (view : View) → (image : List ℕ) → (place n : ℕ) → Type 0
 Both o view image place n = (read_outcome view image place n ≡ o) × (write_outcome view image place n ≡ o)
 
 pub record Examples : Type 0 where
@@ -54,22 +50,22 @@ pub record Examples : Type 0 where
   pub p6 : (size : ℕ) (d : List ℕ) → form_allowed d (partition_fields d) ≡ true
       → (partition_fields d).dpfs.level3.size ≡ 0x1B7F000 → (partition_fields d).dpfs.level3.log ≡ 12
       → ((partition_fields d).dpfs.level2.size ≡ 0x370 → enough_bits (partition_fields d).dpfs.level3 (partition_fields d).dpfs.level2.size ≡ true)
-      × ((partition_fields d).dpfs.level2.size ≡ 0x36C → judged_partition size d ≡ BadPartition Placement)
+      × ((partition_fields d).dpfs.level2.size ≡ 0x36C → judged_partition size d ≡ Err Placement)
   -- P7 level 4 size 0x1001, logarithm 12: two blocks; the second is one byte and 0xFFF zeros
   pub p7 : (blocks (level_of 0x1001 12) ≡ 2) × ((f : ℕ → ℕ) → block (level_of 0x1001 12) f 1 ≡ f 0x1000 ∷ replicate 0xFFF 0)
   -- P8 level 4 size 0x1000: place 0x1000 length 0 accepted; length 1 gives 9
-  pub p8 : (view : View) (image : List ℕ) → view.level4.size ≡ 0x1000 → Both Accepted view image 0x1000 0 × Both (Refused OutOfRange) view image 0x1000 1
+  pub p8 : (view : View) (image : List ℕ) → view.level4.size ≡ 0x1000 → Both (Ok tt) view image 0x1000 0 × Both (Err OutOfRange) view image 0x1000 1
   -- P9 place 0x1001 length 0: 9
-  pub p9 : (view : View) (image : List ℕ) → view.level4.size ≡ 0x1000 → Both (Refused OutOfRange) view image 0x1001 0
+  pub p9 : (view : View) (image : List ℕ) → view.level4.size ≡ 0x1000 → Both (Err OutOfRange) view image 0x1001 0
   -- P10 place 2^64 - 1, length 1: 9
-  pub p10 : (view : View) (image : List ℕ) → view.level4.size ≡ 0x1000 → Both (Refused OutOfRange) view image (2 ^ 64 - 1) 1
+  pub p10 : (view : View) (image : List ℕ) → view.level4.size ≡ 0x1000 → Both (Err OutOfRange) view image (2 ^ 64 - 1) 1
   -- P11 level 4 block 130, level 3 logarithm 12: entry at 0x1040, in level 3's block 1
   pub p11 : ((level3 : ℕ → ℕ) → entry level3 130 ≡ bytes level3 0x1040 32) × ((size : ℕ) → parent (level_of size 12) 130 ≡ 1)
   -- P12 DIFF flag 01 00 00 00: secondary, and 3 does not apply; 00 01 00 00: refusal 3
   pub p12 : (length : ℕ) (header : List ℕ) → opens_with header diff_magic ≡ true
       → (flag_bytes header ≡ 1 ∷ 0 ∷ 0 ∷ 0 ∷ []
-      → (active (diff_header header) ≡ (diff_header header).secondary) × (judged_header length header ≢ BadHeader Selection))
-      × (flag_bytes header ≡ 0 ∷ 1 ∷ 0 ∷ 0 ∷ [] → judged_header length header ≡ BadHeader Selection)
+      → (active (diff_header header) ≡ (diff_header header).secondary) × (judged_header length header ≢ Err Selection))
+      × (flag_bytes header ≡ 0 ∷ 1 ∷ 0 ∷ 0 ∷ [] → judged_header length header ≡ Err Selection)
   -- 9, 3 and 7 are the numbers of these refusals
   pub numbers : ((refuses OutOfRange).number ≡ 9) × ((refuses Selection).number ≡ 3) × ((refuses Placement).number ≡ 7)
   -- besides: a bit of a half is the bit of its byte, by which it is fetched and flipped; and no two refusals have one number and value

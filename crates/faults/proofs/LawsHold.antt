@@ -1,4 +1,6 @@
 -- The laws of the fault list. Assumes nothing.
+use Rattle.std.specs.Prelude.{Result, Ok, Err}
+use Rattle.layout.specs.declared.Refusal.{Refusal}
 use mathlib.Core.Path.{◌≡◌, refl, sym, ap, ◌∙◌, subst}
 use mathlib.Core.Bool.{Bool, true, false, not, cond, true≢false}
 use mathlib.Core.Logic.{◌⊎◌, inl, inr, ◌↔◌}
@@ -10,19 +12,12 @@ use lib.ListN.{length}
 use borrow.Author.Tests.{lt-ltb, not-true}
 use Rattle.number.specs.Blocks.{blocks}
 use Rattle.layout.specs.declared.Container.{Container}
-use Rattle.layout.specs.declared.Opened.{Opened}
-use Rattle.layout.specs.declared.Opened.TheVariants as opening
 use Rattle.layout.specs.Opening.{opened}
 use Rattle.ivfc.specs.Views.{level_of, verified}
 use Rattle.ivfc.specs.Verified.{count_of}
 use Rattle.views.specs.Places.{partitions, committed_view}
-use Rattle.steps.specs.declared.Verdict.{Verdict}
-use Rattle.steps.specs.declared.Verdict.TheVariants.{Yes, No}
-use Rattle.steps.specs.declared.Verdict.TheVariants as verdict
-use Rattle.steps.specs.declared.Count.{Count}
-use Rattle.steps.specs.declared.Count.TheVariants as count
 use Rattle.layout.specs.declared.Refusal.TheVariants.{NoPartition, OutOfRange}
-use Rattle.steps.specs.Reading.{said, verdict_on, count_in}
+use Rattle.steps.specs.Reading.{verdict_on, count_in}
 use Rattle.steps.specs.Calls.{verified_in, is_verified, count_verified_in, count_verified}
 use Rattle.faults.specs.declared.Fault.{Fault}
 use Rattle.faults.specs.Faults.{blocks_from, levels_from, partitions_from, all_blocks, is_fault, kept, faults_of, faults_in, faults}
@@ -69,10 +64,10 @@ module _ (c : Container) where
       (all_levels c (λ (f : Fault). All (Before f) (partitions_from c (suc q) n)) q 1 4
       (λ i b l m x. all_partitions c (Before (at q i b)) (suc q) n (λ p j k y z v w u. inl y)))
 
-rising_in : (image : List ℕ) (a : Opened) → Rising (faults_in image a)
+rising_in : (image : List ℕ) (a : Result Container Refusal) → Rising (faults_in image a)
 unfolding faults_of Rising
-rising_in image (opening.Refused r) = tt
-rising_in image (opening.Valid c) = rising_kept (is_fault c image) (all_blocks c) (rising_partitions c 0 (partitions c))
+rising_in image (Err r) = tt
+rising_in image (Ok c) = rising_kept (is_fault c image) (all_blocks c) (rising_partitions c 0 (partitions c))
 
 -- ---- who is listed
 
@@ -151,7 +146,7 @@ count_zero : (good : ℕ → Bool) → count_of good 0 ≡ 0
 unfolding count_of
 count_zero good = refl
 
-module _ (image : List ℕ) (c : Container) (o : opened image ≡ opening.Valid c) where
+module _ (image : List ℕ) (c : Container) (o : opened image ≡ Ok c) where
   faults_are : faults image ≡ faults_of c image
   unfolding faults
   faults_are = ap (faults_in image) o
@@ -172,37 +167,37 @@ module _ (image : List ℕ) (c : Container) (o : opened image ≡ opening.Valid 
       blocks_all = all_partitions c (IsBlock c) 0 (partitions c) (λ p j k l m b t x. (omega (arith, m), b, t, x))
 
   -- what `verified` says
-  verdict_is : (q b : ℕ) → q < partitions c → b < blocks_in c q 4 → is_verified image q b ≡ said (verified (committed_view c q) image 4 b)
+  verdict_is : (q b : ℕ) → q < partitions c → b < blocks_in c q 4 → is_verified image q b ≡ Ok (verified (committed_view c q) image 4 b)
   unfolding is_verified verdict_on level_of
   verdict_is q b h k =
       ap (verified_in image q b) o
-      ∙ ap (λ (t : Bool). cond t (verdict_on (committed_view c q) image b) (verdict.Refused NoPartition)) (lt-ltb q (partitions c) h)
-      ∙ ap (λ (t : Bool). cond t (said (verified (committed_view c q) image 4 b)) (verdict.Refused OutOfRange)) (lt-ltb b (blocks (committed_view c q).level4) k)
+      ∙ ap (λ (t : Bool). cond t (verdict_on (committed_view c q) image b) (Err NoPartition)) (lt-ltb q (partitions c) h)
+      ∙ ap (λ (t : Bool). cond t (Ok (verified (committed_view c q) image 4 b)) (Err OutOfRange)) (lt-ltb b (blocks (committed_view c q).level4) k)
 
-  says_no : (t : Bool) → (said t ≡ No) ↔ (t ≡ false)
-  says_no true = (λ e. absurd (subst (λ (v : Verdict). Answers v) e tt), λ e. absurd (true≢false e))
+  says_no : (t : Bool) → ◌≡◌ {A = Result Bool Refusal} (Ok t) (Ok false) ↔ (t ≡ false)
+  says_no true = (λ e. absurd (subst (λ (v : Result Bool Refusal). Answers v) e tt), λ e. absurd (true≢false e))
     where
-      Answers : Verdict → Type 0
-      Answers Yes = Unit {0}
-      Answers No = ⊥
-      Answers (verdict.Refused r) = ⊥
+      Answers : Result Bool Refusal → Type 0
+      Answers (Ok true) = Unit {0}
+      Answers (Ok false) = ⊥
+      Answers (Err r) = ⊥
   says_no false = (λ _. refl, λ _. refl)
 
-  question_is : (q b : ℕ) → q < partitions c → b < blocks_in c q 4 → Listed (at q 4 b) (faults image) ↔ (is_verified image q b ≡ No)
+  question_is : (q b : ℕ) → q < partitions c → b < blocks_in c q 4 → Listed (at q 4 b) (faults image) ↔ (is_verified image q b ≡ Ok false)
   question_is q b h k =
       let l : Listed (at q 4 b) (faults image) ↔ (IsBlock c (at q 4 b) × (verified (committed_view c q) image 4 b ≡ false)) = listed_is (at q 4 b) in
-      let s : (said (verified (committed_view c q) image 4 b) ≡ No) ↔ (verified (committed_view c q) image 4 b ≡ false) = says_no (verified (committed_view c q) image 4 b) in
+      let s : ◌≡◌ {A = Result Bool Refusal} (Ok (verified (committed_view c q) image 4 b)) (Ok false) ↔ (verified (committed_view c q) image 4 b ≡ false) = says_no (verified (committed_view c q) image 4 b) in
       (λ x. verdict_is q b h k ∙ s.1 (l.0 x).1, λ e. l.1 ((h, omega arith, omega arith, k), s.0 (sym (verdict_is q b h k) ∙ e)))
 
-  count_is : (q n : ℕ) → q < partitions c → count_verified image q ≡ count.Blocks n → n ≡ count_of (verified (committed_view c q) image 4) (blocks_in c q 4)
+  count_is : (q n : ℕ) → q < partitions c → count_verified image q ≡ Ok n → n ≡ count_of (verified (committed_view c q) image 4) (blocks_in c q 4)
   unfolding count_verified count_in level_of
-  count_is q n h e = ap number (sym e ∙ ap (count_verified_in image q) o ∙ ap (λ (t : Bool). cond t (count_in (committed_view c q) image) (count.Refused NoPartition)) (lt-ltb q (partitions c) h))
+  count_is q n h e = ap number (sym e ∙ ap (count_verified_in image q) o ∙ ap (λ (t : Bool). cond t (count_in (committed_view c q) image) (Err NoPartition)) (lt-ltb q (partitions c) h))
     where
-      number : Count → ℕ
-      number (count.Blocks m) = m
-      number (count.Refused r) = 0
+      number : Result ℕ Refusal → ℕ
+      number (Ok m) = m
+      number (Err r) = 0
 
-  counts_are : (q n : ℕ) → q < partitions c → count_verified image q ≡ count.Blocks n → n + length (kept (of_level q 4) (faults image)) ≡ blocks_in c q 4
+  counts_are : (q n : ℕ) → q < partitions c → count_verified image q ≡ Ok n → n + length (kept (of_level q 4) (faults image)) ≡ blocks_in c q 4
   counts_are q n h e =
       let good : ℕ → Bool = verified (committed_view c q) image 4 in
       let k : kept (of_level q 4) (faults image) ≡ kept (is_fault c image) (blocks_from q 4 0 (blocks_in c q 4)) =

@@ -1,5 +1,4 @@
 pub mod ListLaws
-pub mod SearchLaws
 pub mod LevelLaws
 mod SetLaws
 mod UnderLaws
@@ -7,5 +6,4 @@ mod NumberLaws
 mod RoomLaws
 pub mod MarkedLaws
 pub mod LawsHold
-mod TurnLaws
-mod RowLaws
+mod ListingLaws

@@ -1,13 +1,15 @@
 -- The list of faults, level by level. Assumes nothing.
 use mathlib.Core.Path.{◌≡◌, refl, sym, ap, ◌∙◌}
-use mathlib.Core.Bool.{Bool, true, false, not, cond}
-use mathlib.Core.List.{List, [], ◌∷◌, ◌++◌}
-use Prim.Native.Nat.{ℕ, zero, suc, ◌+◌, ◌-◌, ◌≤◌, ◌<◌}
+use mathlib.Core.Bool.{Bool, true, false, cond}
+use mathlib.Core.List.{List, [], ◌∷◌, ◌++◌, append-nil, append_assoc}
+use Prim.Native.Nat.{ℕ, zero, suc, ◌+◌, ◌-◌, ◌≤◌}
 use native.Mathlib.Omega.{arith}
+use native.Mathlib.Numerals.{add-one}
 use lib.ListN.{length}
-use Rattle.ivfc.specs.Verified.{first_not}
 use Rattle.faults.specs.declared.Fault.{Fault}
-use Rattle.faults.specs.Faults.{blocks_from, kept}
+use Rattle.layout.specs.declared.Container.{Container}
+use Rattle.faults.specs.Faults.{blocks_from, levels_from, partitions_from, kept}
+use Rattle.faults.specs.Marking.{blocks_in}
 
 -- ---- what is kept
 
@@ -42,46 +44,54 @@ pub kept_none : (P : Fault → Bool) → kept P [] ≡ []
 unfolding kept
 kept_none P = refl
 
--- ---- blocks of one level, of which good says which are verified
+-- ---- one block more, one level, one partition
 
 abbrev pub at : (q i b : ℕ) → Fault
 at q i b = record { partition = q; level = i; block = b }
 
-module _ (P : Fault → Bool) (good : ℕ → Bool) (q i : ℕ) (says : (b : ℕ) → P (at q i b) ≡ not (good b)) where
-  -- the first that is not verified is the first of the list
-  pub kept_hit : (b n e : ℕ) → e ≡ first_not good b n → e < b + n
-      → kept P (blocks_from q i b n) ≡ at q i e ∷ kept P (blocks_from q i (e + 1) (b + n - (e + 1)))
-  unfolding first_not blocks_from
-  kept_hit b zero e is h = absurd (omega (arith, is))
-  kept_hit b (suc n) e is h = go (good b) refl (λ r k. kept_hit (suc b) n e r k)
-    where
-      go : (t : Bool) → good b ≡ t
-          → (e ≡ first_not good (suc b) n → e < suc b + n → kept P (blocks_from q i (suc b) n) ≡ at q i e ∷ kept P (blocks_from q i (e + 1) (suc b + n - (e + 1))))
-          → kept P (blocks_from q i b (suc n)) ≡ at q i e ∷ kept P (blocks_from q i (e + 1) (b + suc n - (e + 1)))
-      go true v later =
-          let r : e ≡ first_not good (suc b) n = is ∙ ap (λ (t : Bool). cond t (first_not good (suc b) n) b) v in
-          let s : b + suc n - (e + 1) ≡ suc b + n - (e + 1) = omega arith in
-          kept_no P (at q i b) (blocks_from q i (suc b) n) (says b ∙ ap not v)
-          ∙ later r (omega (arith, h))
-          ∙ ap (λ (k : ℕ). at q i e ∷ kept P (blocks_from q i (e + 1) k)) (sym s)
-      go false v later =
-          let r : e ≡ b = is ∙ ap (λ (t : Bool). cond t (first_not good (suc b) n) b) v in
-          let s : b + suc n - (e + 1) ≡ n = omega (arith, r) in
-          let u : e + 1 ≡ suc b = omega (arith, r) in
-          kept_yes P (at q i b) (blocks_from q i (suc b) n) (says b ∙ ap not v)
-          ∙ ap (λ (k : ℕ). at q i k ∷ kept P (blocks_from q i (suc b) n)) (sym r)
-          ∙ ap (λ (k : ℕ). at q i e ∷ kept P (blocks_from q i k n)) (sym u)
-          ∙ ap (λ (k : ℕ). at q i e ∷ kept P (blocks_from q i (e + 1) k)) (sym s)
+blocks_more : (q i x n : ℕ) → blocks_from q i x (suc n) ≡ blocks_from q i x n ++ (at q i (x + n) ∷ [])
+unfolding blocks_from
+blocks_more q i x zero = ap (λ (b : ℕ). at q i b ∷ []) (omega arith)
+blocks_more q i x (suc n) =
+    ap (λ (l : List Fault). at q i x ∷ l) (blocks_more q i (suc x) n)
+    ∙ ap (λ (b : ℕ). at q i x ∷ (blocks_from q i (suc x) n ++ (at q i b ∷ []))) (omega arith)
 
-  -- with none, nothing is kept
-  pub kept_miss : (b n e : ℕ) → e ≡ first_not good b n → b + n ≤ e → kept P (blocks_from q i b n) ≡ []
-  unfolding first_not blocks_from
-  kept_miss b zero e is h = kept_none P
-  kept_miss b (suc n) e is h = go (good b) refl (λ r k. kept_miss (suc b) n e r k)
-    where
-      go : (t : Bool) → good b ≡ t → (e ≡ first_not good (suc b) n → suc b + n ≤ e → kept P (blocks_from q i (suc b) n) ≡ [])
-          → kept P (blocks_from q i b (suc n)) ≡ []
-      go true v later =
-          let r : e ≡ first_not good (suc b) n = is ∙ ap (λ (t : Bool). cond t (first_not good (suc b) n) b) v in
-          kept_no P (at q i b) (blocks_from q i (suc b) n) (says b ∙ ap not v) ∙ later r (omega (arith, h))
-      go false v later = absurd (omega (arith, is ∙ ap (λ (t : Bool). cond t (first_not good (suc b) n) b) v, h))
+levels_more : (c : Container) (q i n : ℕ) → levels_from c q i (suc n) ≡ levels_from c q i n ++ blocks_from q (i + n) 0 (blocks_in c q (i + n))
+unfolding levels_from
+levels_more c q i zero = append-nil _ ∙ ap (λ (j : ℕ). blocks_from q j 0 (blocks_in c q j)) (omega arith)
+levels_more c q i (suc n) =
+    ap (λ (l : List Fault). blocks_from q i 0 (blocks_in c q i) ++ l) (levels_more c q (suc i) n)
+    ∙ ap (λ (j : ℕ). blocks_from q i 0 (blocks_in c q i) ++ (levels_from c q (suc i) n ++ blocks_from q j 0 (blocks_in c q j))) (omega arith)
+    ∙ sym (append_assoc (blocks_from q i 0 (blocks_in c q i)) (levels_from c q (suc i) n) (blocks_from q (i + suc n) 0 (blocks_in c q (i + suc n))))
+
+partitions_more : (c : Container) (q n : ℕ) → partitions_from c q (suc n) ≡ partitions_from c q n ++ levels_from c (q + n) 1 4
+unfolding partitions_from
+partitions_more c q zero = append-nil _ ∙ ap (λ (p : ℕ). levels_from c p 1 4) (omega arith)
+partitions_more c q (suc n) =
+    ap (λ (l : List Fault). levels_from c q 1 4 ++ l) (partitions_more c (suc q) n)
+    ∙ ap (λ (p : ℕ). levels_from c q 1 4 ++ (partitions_from c (suc q) n ++ levels_from c p 1 4)) (omega arith)
+    ∙ sym (append_assoc (levels_from c q 1 4) (partitions_from c (suc q) n) (levels_from c (q + suc n) 1 4))
+
+-- as the loops count
+pub block_next : (q i b : ℕ) → blocks_from q i 0 (b + 1) ≡ blocks_from q i 0 b ++ (at q i b ∷ [])
+block_next q i b = ap (blocks_from q i 0) (add-one b) ∙ blocks_more q i 0 b ∙ ap (λ (x : ℕ). blocks_from q i 0 b ++ (at q i x ∷ [])) (omega arith)
+
+pub level_next : (c : Container) (q i : ℕ) → 1 ≤ i → levels_from c q 1 (i + 1 - 1) ≡ levels_from c q 1 (i - 1) ++ blocks_from q i 0 (blocks_in c q i)
+level_next c q i h =
+    let e : i + 1 - 1 ≡ suc (i - 1) = omega arith in
+    ap (levels_from c q 1) e ∙ levels_more c q 1 (i - 1)
+    ∙ ap (λ (j : ℕ). levels_from c q 1 (i - 1) ++ blocks_from q j 0 (blocks_in c q j)) (omega arith)
+
+pub partition_next : (c : Container) (q : ℕ) → partitions_from c 0 (q + 1) ≡ partitions_from c 0 q ++ levels_from c q 1 4
+partition_next c q =
+    ap (partitions_from c 0) (add-one q) ∙ partitions_more c 0 q ∙ ap (λ (p : ℕ). partitions_from c 0 q ++ levels_from c p 1 4) (omega arith)
+
+pub blocks_length : (q i b n : ℕ) → length (blocks_from q i b n) ≡ n
+unfolding blocks_from
+blocks_length q i b zero = refl
+blocks_length q i b (suc n) = ap suc (blocks_length q i (suc b) n)
+
+-- with none, nothing is there
+pub none_there : (c : Container) (q i b : ℕ) → ([] ≡ blocks_from q i b 0) × ([] ≡ levels_from c q i 0) × ([] ≡ partitions_from c q 0)
+unfolding blocks_from levels_from partitions_from
+none_there c q i b = (refl, refl, refl)

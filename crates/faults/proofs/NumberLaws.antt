@@ -1,5 +1,5 @@
 -- The numbers of blocks, from level to level and from partition to partition, and the marks at them. Assumes nothing.
-use mathlib.Core.Path.{◌≡◌, refl, sym, ap, ◌∙◌, subst}
+use mathlib.Core.Path.{◌≡◌, refl, sym, ap, ◌∙◌}
 use mathlib.Core.Bool.{Bool, true, cond}
 use mathlib.Core.Logic.{◌⊎◌, inl, inr}
 use mathlib.Core.List.{List}
@@ -155,9 +155,6 @@ number_start c = refl
 module _ (c : Container) (image : List ℕ) where
   pub marked_none : (m : List ℕ) → Free m 0 → Marked c image m 0
   marked_none m free = record { told = λ p i b h. absurd (omega arith); free = λ y h. free y (omega arith) }
-
-  pub marked_all : (q n : ℕ) (m : List ℕ) → Marked c image m q → q ≡ n → Marked c image m n
-  marked_all q n m g e = subst (Marked c image m) e g
 
   -- the own partition's marks, by their numbers
   own_told : (q i b : ℕ) (m m' : List ℕ) → Judges (committed_view c q) image m (partitions_before c q) 5 m' → 1 ≤ i → i ≤ 4 → b < blocks_in c q i

@@ -1,6 +1,7 @@
 -- There is a mark for each block of an image that opens. Each block has an entry in the level above, and the hash levels lie apart in DPFS level 3, of
 -- which the image has two halves. Assumes nothing.
-use mathlib.Core.Path.{◌≡◌, refl, sym, ap}
+use Rattle.std.specs.Prelude.{Ok}
+use mathlib.Core.Path.{◌≡◌, refl, ap}
 use mathlib.Core.Bool.{true}
 use mathlib.Core.Logic.{◌⊎◌, inl, inr}
 use mathlib.Core.List.{List}
@@ -8,12 +9,10 @@ use Prim.Native.Nat.{ℕ, ◌+◌, ◌*◌, ◌≤◌, ◌<◌}
 use native.Mathlib.Omega.{arith}
 use lib.Dec.{leb}
 use lib.ListN.{length}
-use borrow.Author.Tests.{leb-true, eq-eqb}
+use borrow.Author.Tests.{leb-true}
 use Rattle.number.proofs.Tests.{and_right}
 use Rattle.limits.specs.Limits.{master_allowed, size_allowed}
 use Rattle.layout.specs.declared.Container.{Container}
-use Rattle.layout.specs.declared.Opened.{Opened}
-use Rattle.layout.specs.declared.Opened.TheVariants as opening
 use Rattle.layout.specs.Opening.{opened}
 use Rattle.layout.specs.Guarantees.{Guarantees}
 use Rattle.layout.proofs.GuaranteeLaws.{guarantees}
@@ -22,9 +21,9 @@ use Rattle.ivfc.specs.declared.View.{View}
 use Rattle.ivfc.specs.Views.{level_of}
 use Rattle.ivfc.specs.Rules.{ViewRules, LevelsApart}
 use Rattle.views.specs.Places.{partitions, tree_of, view_in, master_in, committed_view, space_of}
-use Rattle.views.proofs.PlaceLaws.{present, committed_rules, committed_apart, tree_rules, space_rules}
+use Rattle.views.proofs.PlaceLaws.{present, committed_rules, committed_apart, tree_rules, space_rules, second_is}
 use Rattle.views.proofs.FitLaws.{places_fit}
-use Rattle.faults.specs.Marking.{blocks_before, partitions_before, most_blocks, Searchable, SearchableIn}
+use Rattle.faults.specs.Marking.{blocks_before, partitions_before, most_blocks, Searchable}
 
 -- three pieces of a room that lie apart
 three : (o p q a b c d : ℕ) → o + a ≤ d → p + b ≤ d → q + c ≤ d → (o + a ≤ p) ⊎ (p + b ≤ o) → (o + a ≤ q) ⊎ (q + c ≤ o) → (p + b ≤ q) ⊎ (q + c ≤ p)
@@ -73,7 +72,7 @@ module _ (image : List ℕ) (c : Container) (g : Guarantees image c) where
   -- the pairs of both partitions lie apart
   two_halves : partitions c ≡ 2 → 2 * (tree_of c 0).level3.size + 2 * (tree_of c 1).level3.size ≤ 0x4000000
   unfolding space_of
-  two_halves e = go ((space_rules image c g).aside (eq-eqb (partitions c) 2 e)).apart33
+  two_halves e = go ((space_rules image c g).aside (tree_of c 1) (second_is c e)).apart33
     where
       a : WellPlaced (tree_of c 0) (length image)
       a = tree_rules image c g 0 (omega (arith, e))
@@ -105,9 +104,5 @@ module _ (image : List ℕ) (c : Container) (g : Guarantees image c) where
   }
 
 -- an image that opens may be searched
-pub searchable : (image : List ℕ) (c : Container) → opened image ≡ opening.Valid c → Searchable c
+pub searchable : (image : List ℕ) (c : Container) → opened image ≡ Ok c → Searchable c
 searchable image c e = well_searchable image c (guarantees image c e)
-
-pub searchable_in : (image : List ℕ) (answer : Opened) → answer ≡ opened image → SearchableIn answer
-searchable_in image (opening.Refused r) e = tt
-searchable_in image (opening.Valid c) e = searchable image c (sym e)

@@ -1,33 +1,19 @@
 -- Marks that are set in a row, one after another. Assumes nothing.
 use mathlib.Core.Path.{◌≡◌, refl, sym, ap, ◌∙◌}
-use mathlib.Core.Bool.{Bool, true, false, ◌||◌}
+use mathlib.Core.Bool.{Bool, false}
 use mathlib.Core.Logic.{◌⊎◌, inl, inr}
 use mathlib.Core.List.{List}
 use Prim.Native.Nat.{ℕ, ◌+◌, ◌-◌, ◌≤◌, ◌<◌}
 use native.Mathlib.Omega.{arith}
 use native.Mathlib.Decide.{dec_lt}
-use borrow.Author.Tests.{eq-eqb, ne_eqb}
-use Rattle.number.specs.Marks.{marked, Marks}
+use lib.ListN.{length, take, get_or}
+use lib.Seq.{length-take-le, get_or-take}
+use Rattle.number.specs.Marks.{marked}
 use Rattle.faults.specs.Marking.{Free, Sets}
-
--- none at all
-pub sets_none : (m : List ℕ) (x : ℕ) (P : ℕ → Bool) → Sets m x 0 P m
-sets_none m x P = record { told = λ j h. absurd (omega arith); kept = λ y h. refl }
 
 -- one that gets none
 pub sets_false : (m : List ℕ) (x : ℕ) (t : Bool) → Free m x → t ≡ false → Sets m x 1 (λ (j : ℕ). t) m
 sets_false m x t free e = record { told = λ j h. free (x + j) (omega arith) ∙ sym e; kept = λ y h. refl }
-
--- one that gets one
-pub sets_true : (m m' : List ℕ) (x : ℕ) (t : Bool) → t ≡ true → Marks m x m' → Sets m x 1 (λ (j : ℕ). t) m'
-sets_true m m' x t e s = record {
-  told = λ j h. s (x + j) ∙ ap (λ (b : Bool). b || marked m (x + j)) (eq-eqb (x + j) x (omega arith)) ∙ sym e;
-  kept = λ y h. s y ∙ ap (λ (b : Bool). b || marked m y) (ne_eqb y x (other y h));
-}
-  where
-    other : (y : ℕ) → (y < x) ⊎ (x + 1 ≤ y) → y ≡ x → ⊥
-    other y (inl h) q = omega arith
-    other y (inr h) q = omega arith
 
 -- a row and the row after it
 pub sets_join : (m m' m'' : List ℕ) (x y n k l : ℕ) (P Q : ℕ → Bool) → Sets m x n P m' → Sets m' y k Q m'' → y ≡ x + n → l ≡ n + k
@@ -49,10 +35,6 @@ sets_join m m' m'' x y n k l P Q a b e s same = record { told = λ j h. go j h (
     away' z (inl h) = inl h
     away' z (inr h) = inr (omega arith)
 
--- a row and one more
-pub sets_more : (m m' m'' : List ℕ) (x n : ℕ) (P : ℕ → Bool) (t : Bool) → Sets m x n P m' → Sets m' (x + n) 1 (λ (j : ℕ). t) m'' → t ≡ P n → Sets m x (n + 1) P m''
-sets_more m m' m'' x n P t a b e = sets_join m m' m'' x (x + n) n 1 (n + 1) P (λ (j : ℕ). t) a b refl refl (λ j h. e ∙ ap P (omega (arith, h)))
-
 -- the same row, told otherwise
 pub sets_same : (m m' : List ℕ) (x n k : ℕ) (P Q : ℕ → Bool) → Sets m x n P m' → k ≡ n → ((j : ℕ) → j < n → P j ≡ Q j) → Sets m x k Q m'
 sets_same m m' x n k P Q a e same = record {
@@ -63,6 +45,14 @@ sets_same m m' x n k P Q a e same = record {
     away : (y : ℕ) → (y < x) ⊎ (x + k ≤ y) → (y < x) ⊎ (x + n ≤ y)
     away y (inl h) = inl h
     away y (inr h) = inr (omega arith)
+
+-- the first n of a row told by an array
+pub sets_taken : (m m' : List ℕ) (x n : ℕ) (each : List Bool) → n ≤ length each
+    → Sets m x (length (take n each)) (λ (j : ℕ). get_or (take n each) j false) m' → Sets m x n (λ (j : ℕ). get_or each j false) m'
+sets_taken m m' x n each h a =
+    let e : length (take n each) ≡ n = length-take-le n each h in
+    sets_same m m' x (length (take n each)) n (λ (j : ℕ). get_or (take n each) j false) (λ (j : ℕ). get_or each j false) a (sym e)
+    (λ j k. get_or-take n each j false (omega arith))
 
 -- there is none past it, where there was none before
 pub sets_free : (m m' : List ℕ) (x y n : ℕ) (P : ℕ → Bool) → Free m x → Sets m x n P m' → x + n ≤ y → Free m' y

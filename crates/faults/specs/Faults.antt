@@ -1,15 +1,12 @@
 -- The fault list (02, W7): every block of levels 1 to 4 that is not verified in the committed view. Of all blocks, partition A's first, then by
 -- level from 1 up, then by number, those are kept that are not verified: so each is there once, in order, and no other.
-use Rattle.std.specs.Prelude.{ℕ, zero, suc, Bool, not, cond, List, [], ◌∷◌, ◌++◌, length, take, drop}
+use Rattle.std.specs.Prelude.{ℕ, zero, suc, Bool, not, cond, List, [], ◌∷◌, ◌++◌, length, take, drop, Result, Ok, Err}
+use Rattle.layout.specs.declared.Refusal.{Refusal}
 use Rattle.number.specs.Blocks.{blocks}
 use Rattle.layout.specs.declared.Container.{Container}
-use Rattle.layout.specs.declared.Opened.{Opened}
-use Rattle.layout.specs.declared.Opened.TheVariants as opening
 use Rattle.layout.specs.Opening.{opened}
 use Rattle.ivfc.specs.Views.{level_of, verified}
 use Rattle.views.specs.Places.{partitions, committed_view}
-use Rattle.steps.specs.declared.Count.{Count}
-use Rattle.steps.specs.declared.Count.TheVariants as count
 use Rattle.faults.specs.declared.Fault.{Fault}
 
 -- ---- all blocks
@@ -49,19 +46,19 @@ faults_of c image = kept (is_fault c image) (all_blocks c)
 -- ---- the call
 
 -- the list of an image; one that does not open has none
-abbrev pub faults_in : List ℕ → Opened → List Fault
-faults_in image (opening.Refused r) = []
-faults_in image (opening.Valid c) = faults_of c image
+abbrev pub faults_in : List ℕ → Result Container Refusal → List Fault
+faults_in image (Err r) = []
+faults_in image (Ok c) = faults_of c image
 
 unfoldable pub faults : List ℕ → List Fault
 faults image = faults_in image (opened image)
 
 -- the answer is opening's refusal, or the number of all faults
-abbrev pub count_faults_in : List ℕ → Opened → Count
-count_faults_in image (opening.Refused r) = count.Refused r
-count_faults_in image (opening.Valid c) = count.Blocks (length (faults_of c image))
+abbrev pub count_faults_in : List ℕ → Result Container Refusal → Result ℕ Refusal
+count_faults_in image (Err r) = Err r
+count_faults_in image (Ok c) = Ok (length (faults_of c image))
 
-unfoldable pub count_faults : List ℕ → Count
+unfoldable pub count_faults : List ℕ → Result ℕ Refusal
 count_faults image = count_faults_in image (opened image)
 
 -- a row afterwards: the first of the list, as far as the row goes; the records past the list's last one are as they were

@@ -1,13 +1,10 @@
 -- What the list comes to, in closed statements; proofs/LawsHold.antt proves them.
-use Rattle.std.specs.Prelude.{◌≡◌, ◌⊎◌, ◌↔◌, Bool, false, ◌&&◌, List, [], ◌∷◌, ℕ, ◌+◌, ◌≤◌, ◌<◌, eqb, length}
+use Rattle.std.specs.Prelude.{◌≡◌, ◌⊎◌, ◌↔◌, Bool, false, ◌&&◌, List, [], ◌∷◌, ℕ, ◌+◌, ◌≤◌, ◌<◌, eqb, length, Ok}
 use Rattle.number.specs.Blocks.{blocks}
 use Rattle.layout.specs.declared.Container.{Container}
-use Rattle.layout.specs.declared.Opened.TheVariants.{Valid}
 use Rattle.layout.specs.Opening.{opened}
 use Rattle.ivfc.specs.Views.{level_of, verified}
 use Rattle.views.specs.Places.{partitions, committed_view}
-use Rattle.steps.specs.declared.Verdict.TheVariants.{No}
-use Rattle.steps.specs.declared.Count.TheVariants.{Blocks}
 use Rattle.steps.specs.Calls.{is_verified, count_verified}
 use Rattle.faults.specs.declared.Fault.{Fault}
 use Rattle.faults.specs.Faults.{kept, faults}
@@ -46,12 +43,12 @@ pub record FaultLaws : Type 0 where
   -- each fault is there once, in order
   pub rising : (image : List ℕ) → Rising (faults image)
   -- every such block that is not verified is there, and no other
-  pub listed : (image : List ℕ) (c : Container) → opened image ≡ Valid c → (f : Fault)
+  pub listed : (image : List ℕ) (c : Container) → opened image ≡ Ok c → (f : Fault)
       → Listed f (faults image) ↔ (IsBlock c f × (verified (committed_view c f.partition) image f.level f.block ≡ false))
   -- of level 4: exactly if `verified` says no
-  pub questions : (image : List ℕ) (c : Container) → opened image ≡ Valid c → (q b : ℕ) → q < partitions c
+  pub questions : (image : List ℕ) (c : Container) → opened image ≡ Ok c → (q b : ℕ) → q < partitions c
       → b < blocks (level_of (committed_view c q) 4)
-      → Listed (record { partition = q; level = 4; block = b }) (faults image) ↔ (is_verified image q b ≡ No)
+      → Listed (record { partition = q; level = 4; block = b }) (faults image) ↔ (is_verified image q b ≡ (Ok false))
   -- those of level 4 and the count of the verified ones are all blocks
-  pub counts : (image : List ℕ) (c : Container) → opened image ≡ Valid c → (q n : ℕ) → q < partitions c → count_verified image q ≡ Blocks n
+  pub counts : (image : List ℕ) (c : Container) → opened image ≡ Ok c → (q n : ℕ) → q < partitions c → count_verified image q ≡ Ok n
       → n + length (kept (of_level q 4) (faults image)) ≡ blocks (level_of (committed_view c q) 4)

@@ -1,4 +1,4 @@
 pub mod Faults
 pub mod Marking
-pub mod Searching
+pub mod Listing
 pub mod Laws

@@ -1,19 +1,14 @@
--- The marks of a search: one bit for each block of levels 1 to 4, in the list's order, set where the block is verified. These are no part of the
--- paper: the contracts of marking, judging and searching cite them.
-use Rattle.std.specs.Prelude.{◌≡◌, Bool, true, false, not, cond, ◌⊎◌, List, [], ℕ, zero, suc, ◌+◌, ◌-◌, ◌≤◌, ◌<◌, eqb, length}
+-- The marks of the list: one bit for each block of levels 1 to 4, in the list's order, set where the block is verified. These are no part of the
+-- paper: the contracts of marking, judging and listing cite them.
+use Rattle.std.specs.Prelude.{◌≡◌, Bool, true, false, not, cond, ◌⊎◌, List, ℕ, zero, suc, ◌+◌, ◌-◌, ◌≤◌, ◌<◌, eqb}
 use Rattle.number.specs.Blocks.{blocks}
 use Rattle.number.specs.Marks.{marked}
 use Rattle.layout.specs.declared.Container.{Container}
-use Rattle.layout.specs.declared.Opened.{Opened}
-use Rattle.layout.specs.declared.Opened.TheVariants as opening
 use Rattle.ivfc.specs.declared.View.{View}
 use Rattle.ivfc.specs.Views.{level_of, verified}
 use Rattle.views.specs.Places.{partitions, committed_view}
 use Rattle.views.specs.Rules.{PlacesFit}
-use Rattle.steps.specs.declared.Count.{Count}
-use Rattle.steps.specs.declared.Count.TheVariants as count
 use Rattle.faults.specs.declared.Fault.{Fault}
-use Rattle.faults.specs.Faults.{all_blocks, kept}
 
 -- ---- numbers
 
@@ -74,30 +69,13 @@ pub record Marked (c : Container) (image marks : List ℕ) (q : ℕ) : Type 0 wh
   pub told : (p i b : ℕ) → p < q → 1 ≤ i → i ≤ 4 → b < blocks_in c p i → marked marks (number_of c p i b) ≡ verified (committed_view c p) image i b
   pub free : Free marks (partitions_before c q)
 
-abbrev pub MarkedIn : (image : List ℕ) → Opened → (marks : List ℕ) → Type 0
-MarkedIn image (opening.Refused r) marks = Unit {0}
-MarkedIn image (opening.Valid c) marks = Marked c image marks (partitions c)
-
 -- ---- what the marks leave
 
 abbrev pub is_unmarked : Container → (marks : List ℕ) → Fault → Bool
 is_unmarked c marks f = not (marked marks (number_of c f.partition f.level f.block))
 
--- the blocks that have no mark; an image that does not open has none
-abbrev pub unmarked : Opened → (marks : List ℕ) → List Fault
-unmarked (opening.Refused r) marks = []
-unmarked (opening.Valid c) marks = kept (is_unmarked c marks) (all_blocks c)
-
-abbrev pub count_unmarked : Opened → (marks : List ℕ) → Count
-count_unmarked (opening.Refused r) marks = count.Refused r
-count_unmarked (opening.Valid c) marks = count.Blocks (length (kept (is_unmarked c marks) (all_blocks c)))
-
--- what a search asks of a container: its views can be made, and its blocks can be counted
+-- what the list asks of a container: its views can be made, and its blocks can be counted
 pub record Searchable (c : Container) : Type 0 where
   pub places : (q : ℕ) → q < partitions c → PlacesFit c q
   pub few : partitions c ≤ 2
   pub numbers : partitions_before c (partitions c) ≤ most_blocks
-
-abbrev pub SearchableIn : Opened → Type 0
-SearchableIn (opening.Refused r) = Unit {0}
-SearchableIn (opening.Valid c) = Searchable c

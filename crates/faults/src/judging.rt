@@ -1,24 +1,22 @@
 // Judging all blocks, each once: one that is verified gets a mark, and below one that is not nothing is hashed. The blocks are numbered in the list's
 // order.
-ghost use Rattle.std.specs.Prelude.{◌≡◌, ℕ, ◌+◌, ◌-◌, ◌*◌, ◌≤◌, ◌<◌, length};
+ghost use Rattle.std.specs.Prelude.{◌≡◌, ℕ, ◌+◌, ◌-◌, ◌*◌, ◌≤◌, ◌<◌, length, Ok};
 ghost use Rattle.number.specs.Blocks.{blocks};
 ghost use Rattle.layout.specs.Opening.{opened};
-ghost use Rattle.layout.specs.declared.Opened.TheVariants.{Valid};
 ghost use Rattle.ivfc.specs.Blocks.{parent};
-ghost use Rattle.ivfc.specs.Rules.{TreeRules, ViewRules};
+ghost use Rattle.ivfc.specs.Rules.{TreeRules};
 ghost use Rattle.ivfc.specs.Verified.{first_not};
 ghost use Rattle.ivfc.specs.Views.{level_of, matches, verified};
 ghost use Rattle.views.specs.Places.{partitions, committed_view};
 ghost use Rattle.views.specs.Rules.{PlacesFit};
-ghost use Rattle.faults.specs.Marking.{blocks_before, most_blocks, Free, Sets, upper_marked, Awaits, Judges, Marked, MarkedIn};
+ghost use Rattle.faults.specs.Marking.{blocks_before, most_blocks, Free, Sets, upper_marked, Awaits, Judges, Marked};
 
 use super::LAST;
 use super::marking::{first_unmarked, mark_row};
-use ivfc::View;
 use ivfc::gathering::level_of;
-use ivfc::matching::compare_from;
 use ivfc::verifying::{first_under, parent_of};
-use layout::{Container, Opened};
+use ivfc::{Reader, View};
+use layout::Container;
 use number::blocks::block_count;
 use views::places::committed_view;
 
@@ -52,83 +50,71 @@ fn end_under(view: View, i: u64, b: u64, n: u64, marks: &[u8], above: u64) -> u6
 
 // Hashes the blocks from `first` on, before end, of level i, and marks those that match their entries. `start` is the number of the level's first
 // block.
-fn mark_matching(
-    view: View,
-    image: &[u8],
-    i: u64,
-    first: u64,
-    end: u64,
-    marks: &mut [u8],
-    start: u64,
-)
-    requires view_rules { (ViewRules view (length image.now)) × (1 ≤ i) × (i ≤ 4) × (first ≤ end) × (end ≤ blocks (level_of view i)) }
+fn mark_matching(reader: Reader<'_>, i: u64, first: u64, end: u64, marks: &mut [u8], start: u64)
+    requires within { (1 ≤ i) × (i ≤ 4) × (first ≤ end) × (end ≤ blocks (level_of reader.view i)) }
     requires free { (Free marks.old (start + first)) × (start + end ≤ most_blocks) × (most_blocks ≤ 8 * length marks.old) }
-    ensures { Sets marks.old (start + first) (end - first) (λ (j : ℕ). matches view image.now i (first + j)) marks.new }
+    ensures { Sets marks.old (start + first) (end - first) (λ (j : ℕ). matches reader.entry.view reader.entry.image.now i (first + j)) marks.new }
 {
     let mut b = first;
+    // A `while`: each turn goes on by as many blocks as were hashed together.
     while b < end {
-        let compared = compare_from(view, image, i, b, end);
+        let compared = reader.compare_from(i, b, end);
         let each = compared.each;
-        mark_row(marks, start + b, each, compared.hashed as usize);
+        mark_row(marks, start + b, &each[..compared.hashed as usize]);
         b += compared.hashed;
     }
 }
 
 // Judges level i: marks its verified blocks. `above` and `start` are the numbers of the first blocks of the level above and of its own.
-fn mark_level(view: View, image: &[u8], i: u64, above: u64, start: u64, marks: &mut [u8])
-    requires view_rules { (ViewRules view (length image.now)) × (1 ≤ i) × (i ≤ 4) × (Awaits view image.now marks.old i above start) }
-    requires above_le_start { (above ≤ start) × (start + blocks (level_of view i) ≤ most_blocks) × (most_blocks ≤ 8 * length marks.old) }
-    ensures { Sets marks.old start (blocks (level_of view i)) (verified view image.now i) marks.new }
+fn mark_level(reader: Reader<'_>, i: u64, above: u64, start: u64, marks: &mut [u8])
+    requires within { (1 ≤ i) × (i ≤ 4) × (Awaits reader.view reader.image.now marks.old i above start) }
+    requires above_le_start { (above ≤ start) × (start + blocks (level_of reader.view i) ≤ most_blocks) × (most_blocks ≤ 8 * length marks.old) }
+    ensures { Sets marks.old start (blocks (level_of reader.entry.view i)) (verified reader.entry.view reader.entry.image.now i) marks.new }
 {
-    let n = block_count(level_of(view, i));
+    let n = block_count(level_of(reader.view, i));
     let mut b = 0;
+    // A `while`: each turn goes on by a run of blocks whose upper blocks are verified.
     while b < n {
-        let end = end_under(view, i, b, n, marks, above);
-        mark_matching(view, image, i, b, end, marks, start);
+        let end = end_under(reader.view, i, b, n, marks, above);
+        mark_matching(reader, i, b, end, marks, start);
         // the block at `end`, if there is one, stands below one that is not verified
         b = end + (end < n) as u64;
     }
 }
 
 // Judges a view, level by level from the master hash down. `start` is the number of its first block; the answer is the number past its last.
-fn mark_view(view: View, image: &[u8], start: u64, marks: &mut [u8]) -> u64
-    requires { (ViewRules view (length image.now)) × (Free marks.old start) × (start + blocks_before view 5 ≤ most_blocks) × (most_blocks ≤ 8 * length marks.old) }
-    ensures { (result ≡ start + blocks_before view 5) × (Judges view image.now marks.old start 5 marks.new) }
+fn mark_view(reader: Reader<'_>, start: u64, marks: &mut [u8]) -> u64
+    requires { (Free marks.old start) × (start + blocks_before reader.view 5 ≤ most_blocks) × (most_blocks ≤ 8 * length marks.old) }
+    ensures { (result ≡ start + blocks_before reader.entry.view 5) × (Judges reader.entry.view reader.entry.image.now marks.old start 5 marks.new) }
 {
     let mut above = start;
     let mut at = start;
-    let mut i = 1;
-    while i <= LAST {
-        mark_level(view, image, i, above, at, marks);
+    for i in 1..=LAST {
+        mark_level(reader, i, above, at, marks);
         above = at;
-        at += block_count(level_of(view, i));
-        i += 1;
+        at += block_count(level_of(reader.view, i));
     }
     at
 }
 
 // Judges all partitions.
 fn mark_all(c: Container, image: &[u8], marks: &mut [u8])
-    requires { (opened image.now ≡ Valid c) × (Free marks.old 0) × (most_blocks ≤ 8 * length marks.old) }
+    requires { (opened image.now ≡ Ok c) × (Free marks.old 0) × (most_blocks ≤ 8 * length marks.old) }
     ensures { Marked c image.now marks.new (partitions c) }
 {
     let mut number = 0;
-    let mut q = 0;
-    while q < c.header.count as u64 {
+    for q in 0..c.header.count as u64 {
         let view = view_of(c, q);
-        number = mark_view(view, image, number, marks);
-        q += 1;
+        number = mark_view(Reader { view, image }, number, marks);
     }
 }
 
 // The marks of the verified blocks of an image.
-pub fn judged(image: &[u8], answer: Opened) -> [u8; MARKS]
-    requires { answer ≡ opened image.now }
-    ensures { MarkedIn image.now answer result }
+pub fn judged(c: Container, image: &[u8]) -> [u8; MARKS]
+    requires { opened image.now ≡ Ok c }
+    ensures { Marked c image.now result (partitions c) }
 {
     let mut marks = [0u8; MARKS];
-    if let Opened::Valid(c) = answer {
-        mark_all(c, image, &mut marks);
-    }
+    mark_all(c, image, &mut marks);
     marks
 }

@@ -1,103 +1,110 @@
-// The row of faults, filled in order: the search decides, and the row is stored to.
-ghost use Rattle.std.specs.Prelude.{◌≡◌, true, ℕ, ◌+◌, ◌<◌, length};
-ghost use Rattle.layout.specs.Refusals.{Answers};
-ghost use Rattle.steps.specs.Answers.{count_says};
-ghost use Rattle.faults.specs.Faults.{faults, count_faults, row_after};
-ghost use Rattle.faults.specs.Marking.{unmarked, count_unmarked, SearchableIn};
-ghost use Rattle.faults.specs.Searching.{left, seen, Ready, Turned, Reached};
+// The list: the blocks without a mark go into the row, level by level, and each is counted. Nothing is hashed here.
+ghost use Rattle.std.specs.Prelude.{◌≡◌, ◌+◌, ◌<◌, ◌≤◌, length, slice_set};
+ghost use Rattle.layout.specs.Refusals.{Answers, count_says};
+ghost use Rattle.views.specs.Places.{partitions};
+ghost use Rattle.views.specs.Rules.{PlacesFit};
+ghost use Rattle.faults.specs.Faults.{blocks_from, levels_from, all_blocks, kept, faults, count_faults, row_after};
+ghost use Rattle.faults.specs.Marking.{blocks_in, most_blocks, is_unmarked, Searchable};
+ghost use Rattle.faults.specs.Listing.{Lists, Reaches};
 
-use super::judging::judged;
-use super::searching::{count_from, find, start};
-use super::{Fault, Place, Turn};
-use layout::Opened;
+use super::judging::{judged, view_of};
+use super::{Fault, LAST, Listed};
+use ivfc::gathering::level_of;
 use layout::opening::open;
-use steps::Count;
+use layout::{Container, Refusal};
+use number::blocks::block_count;
+use number::marks::is_marked;
 
-// The turn at a record, searched from a place on.
-fn turn_from(marks: &[u8], room: usize, at: usize, answer: Opened, from: Place) -> Turn
-    requires { Ready answer from }
-    ensures { Turned marks.now answer room at from result }
+// The partition and the level that come first.
+const A: u64 = 0;
+
+const FIRST: u64 = 1;
+
+// How many blocks level i of partition q has.
+fn blocks_of(c: Container, q: u64, i: u64) -> u64
+    requires { PlacesFit c q }
+    ensures { result ≡ blocks_in c q i }
 {
-    match answer {
-        Opened::Valid(c) => {
-            let found = find(c, marks, from);
-            let fault = found.fault;
-            let next = found.place;
-            Turn {
-                more: found.any & (at < room),
-                found: found.any,
-                at,
-                fault,
-                next,
-            }
+    block_count(level_of(view_of(c, q), i))
+}
+
+// Puts a fault into the record after those of the faults before it, if the row has one, and counts it in any case.
+fn report(row: &mut [Fault], faults: usize, fault: Fault) -> usize
+    requires { faults < most_blocks }
+    ensures { (row.new ≡ slice_set row.old faults fault) × (result ≡ faults + 1) }
+{
+    if faults < row.len() {
+        row[faults] = fault;
+    }
+    faults + 1
+}
+
+// Lists the blocks of a level that have no mark.
+fn list_level(
+    c: Container,
+    q: u64,
+    i: u64,
+    marks: &[u8],
+    row: &mut [Fault],
+    before: Listed,
+) -> Listed
+    requires { (Searchable c) × (q < partitions c) × (1 ≤ i) × (i ≤ 4) × (Reaches c q i before) }
+    ensures lists { Lists c marks.now row.old before.faults (blocks_from q i 0 (blocks_in c q i)) row.new result.faults }
+    ensures reaches { Reaches c q (i + 1) result }
+{
+    let n = blocks_of(c, q, i);
+    let mut faults = before.faults;
+    for b in 0..n {
+        if !is_marked(marks, before.blocks + b) {
+            let fault = Fault {
+                partition: q,
+                level: i,
+                block: b,
+            };
+            faults = report(row, faults, fault);
         }
-        Opened::Refused(_) => Turn {
-            more: false,
-            found: false,
-            at,
-            fault: Fault {
-                partition: 0,
-                level: 0,
-                block: 0,
-            },
-            next: from,
-        },
+    }
+    Listed {
+        blocks: before.blocks + n,
+        faults,
     }
 }
 
-// The first turn.
-pub fn first(marks: &[u8], room: usize, answer: Opened) -> Turn
-    requires { SearchableIn answer }
-    ensures { Reached marks.now answer room 0 result }
+// Lists those of a partition.
+fn list_partition(c: Container, q: u64, marks: &[u8], row: &mut [Fault], before: Listed) -> Listed
+    requires { (Searchable c) × (q < partitions c) × (Reaches c q 1 before) }
+    ensures lists { Lists c marks.now row.old before.faults (levels_from c q 1 4) row.new result.faults }
+    ensures reaches { Reaches c (q + 1) 1 result }
 {
-    turn_from(marks, room, 0, answer, start())
-}
-
-// The turn after one whose fault is stored.
-pub fn next(marks: &[u8], room: usize, answer: Opened, turn: Turn) -> Turn
-    requires { (turn.at < room) × (Ready answer turn.next) }
-    ensures { (k : ℕ) → turn.more ≡ true → Reached marks.now answer room k turn → Reached marks.now answer room (k + 1) result }
-{
-    let from = turn.next;
-    turn_from(marks, room, turn.at + 1, answer, from)
-}
-
-// The answer, once the row is filled: the faults before the turn, the turn's own, and those after it.
-pub fn answered(marks: &[u8], answer: Opened, turn: Turn) -> Count
-    requires { (Ready answer turn.next) × (seen turn + length (left marks.now answer turn.next) ≡ length (unmarked answer marks.now)) }
-    ensures { result ≡ count_unmarked answer marks.now }
-{
-    match answer {
-        Opened::Valid(c) => {
-            let from = turn.next;
-            let after = count_from(c, marks, from);
-            Count::Blocks(turn.at as u64 + turn.found as u64 + after)
-        }
-        Opened::Refused(refusal) => Count::Refused(refusal),
+    let mut listed = before;
+    for i in FIRST..=LAST {
+        listed = list_level(c, q, i, marks, row, listed);
     }
+    listed
 }
 
-// Fills a row with the first blocks that have no mark, as far as it goes, and counts them all.
-pub fn fill(marks: &[u8], answer: Opened, row: &mut [Fault]) -> Count
-    requires { SearchableIn answer }
-    ensures { (result ≡ count_unmarked answer marks.now) × (row.new ≡ row_after (unmarked answer marks.now) row.old) }
+// Lists those of a container, and says how many there are.
+fn list_all(c: Container, marks: &[u8], row: &mut [Fault]) -> usize
+    requires { Searchable c }
+    ensures { (result ≡ length (kept (is_unmarked c marks.now) (all_blocks c))) × (row.new ≡ row_after (kept (is_unmarked c marks.now) (all_blocks c)) row.old) }
 {
-    let room = row.len();
-    let mut turn = first(marks, room, answer);
-    while turn.more {
-        let at = turn.at;
-        row[at] = turn.fault;
-        turn = next(marks, room, answer, turn);
+    let mut listed = Listed {
+        blocks: 0,
+        faults: 0,
+    };
+    for q in A..c.header.count as u64 {
+        listed = list_partition(c, q, marks, row, listed);
     }
-    answered(marks, answer, turn)
+    listed.faults
 }
 
 // Fills a row with the first faults, as far as it goes, and counts them all. The image is opened once, and each block is judged once before the row
 // is filled.
-pub fn list(image: &[u8], row: &mut [Fault]) -> Count
+pub fn list(image: &[u8], row: &mut [Fault]) -> Result<u64, Refusal>
     ensures { (Answers count_says result (count_faults image.now)) × (row.new ≡ row_after (faults image.now) row.old) }
 {
-    let answer = open(image);
-    let marks = judged(image, answer);
-    fill(&marks, answer, row)
+    let c = open(image)?;
+    let marks = judged(c, image);
+    let count = list_all(c, &marks, row);
+    Ok(count as u64)
 }

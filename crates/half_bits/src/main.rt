@@ -5,7 +5,7 @@
 ghost use Rattle.std.specs.Prelude.{◌*◌, ◌%◌, ◌<◌, ◌≤◌, ◌≡◌, length};
 
 use dpfs::bits::bit_in;
-use std::io;
+use std::{array, io};
 
 // The shortest half, and the longest of level 2 of which every bit can name a block.
 const SHORTEST: usize = 4;
@@ -17,13 +17,7 @@ const PRIME: u64 = 4_294_967_291;
 
 // Byte y of the half is 7 y + y / 256, modulo 256.
 fn ruled() -> [u8; LONGEST] {
-    let mut half = [0u8; LONGEST];
-    let mut y = 0;
-    while y < LONGEST {
-        half[y] = ((y * 7 + y / 256) % 256) as u8;
-        y += 1;
-    }
-    half
+    array::from_fn(|y| ((y * 7 + y / 256) % 256) as u8)
 }
 
 // Bit n as a number, looked up on a slice that ends with the byte which holds it.
@@ -32,7 +26,7 @@ fn bit_number(half: &[u8], n: u64) -> u64
     ensures { result ≤ 1 }
 {
     let end = (4 * (n / 32) + (3 - n % 32 / 8) + 1) as usize;
-    if bit_in(&half[..end], n) { 1 } else { 0 }
+    u64::from(bit_in(&half[..end], n))
 }
 
 // The bits of a half as one number, the first the highest, modulo the prime.
@@ -41,10 +35,8 @@ fn mark(half: &[u8]) -> u64
 {
     let bits = 8 * half.len() as u64;
     let mut mark = 1;
-    let mut n = 0;
-    while n < bits {
+    for n in 0..bits {
         mark = (mark * 2 + bit_number(half, n)) % PRIME;
-        n += 1;
     }
     mark
 }

@@ -1,4 +1,5 @@
 -- What an image that is left may differ in: 01's words, which the theorems are in, and those that the proofs go by. Assumes nothing.
+use Rattle.std.specs.Prelude.{Ok}
 use mathlib.Core.Path.{◌≡◌, refl}
 use mathlib.Core.List.{List}
 use mathlib.Core.Logic.{◌⊎◌, inl, inr, ⊎_elim}
@@ -6,7 +7,6 @@ use Prim.Native.Nat.{ℕ}
 use Rattle.number.specs.Frame.{Keeps}
 use Rattle.number.proofs.FrameLaws.{keeps_more}
 use Rattle.layout.specs.declared.Container.{Container}
-use Rattle.layout.specs.declared.Opened.TheVariants as opening
 use Rattle.layout.specs.Opening.{opened}
 use Rattle.layout.proofs.GuaranteeLaws.{guarantees}
 use Rattle.dpfs.specs.Free.{Free}
@@ -27,7 +27,7 @@ pub left_more : (W : ℕ → Type 0) (c : Container) (image left : List ℕ) →
 left_more W c image left = keeps_more (λ i. elim [ inl f ↦ inl f | inr n ↦ absurd n ])
 
 -- the same by 01's list, and back
-module _ (W : ℕ → Type 0) (image left : List ℕ) (c : Container) (o : opened image ≡ opening.Valid c) where
+module _ (W : ℕ → Type 0) (image left : List ℕ) (c : Container) (o : opened image ≡ Ok c) where
   pub agrees_left : AgreesBut W c image left → LeftBut W c image left
   agrees_left a = record {
     size = a.size;

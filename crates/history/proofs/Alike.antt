@@ -1,4 +1,5 @@
 -- Versions of one shape that are alike in some blocks, and what is read of them. Assumes nothing.
+use Rattle.std.specs.Prelude.{Err, Ok}
 use mathlib.Core.Path.{◌≡◌, refl, sym, ap, ◌∙◌, subst}
 use mathlib.Core.Bool.{Bool, true, false, not, ◌&&◌, ◌||◌, cond}
 use mathlib.Core.List.{List, [], ◌∷◌}
@@ -20,8 +21,6 @@ use Rattle.layout.specs.declared.Refusal.TheVariants.{OutOfRange}
 use Rattle.views.specs.Places.{partition_of, view_in, committed_view, staged_view}
 use Rattle.views.specs.Versions.{Version, version_of}
 use Rattle.views.proofs.FlagLaws.{length_flags}
-use Rattle.steps.specs.declared.Verdict.TheVariants as verdict
-use Rattle.steps.specs.Reading.{said}
 use Rattle.steps.specs.Calls.{unread}
 use Rattle.history.specs.Model.{laid_over, lowest, handed, read_of, judged_of}
 use Rattle.history.specs.Run.{value_at}
@@ -167,10 +166,10 @@ module _ (v w : Version) (l : Level) (shape : OneShape v w) (sized : Sized v l) 
   pub judged_alike : (b : ℕ) → (b < blocks l → AlikeIn b v w) → judged_of v b ≡ judged_of w b
   unfolding judged_of
   judged_alike b alike =
-      ap (λ (x : ℕ). cond (ltb b x) (said (get_or v.verified b false)) (verdict.Refused OutOfRange)) shape.counts
+      ap (λ (x : ℕ). cond (ltb b x) (Ok (get_or v.verified b false)) (Err OutOfRange)) shape.counts
       ∙ by (ltb b (length w.verified)) refl
     where
       by : (t : Bool) → ltb b (length w.verified) ≡ t
-          → cond t (said (get_or v.verified b false)) (verdict.Refused OutOfRange) ≡ cond t (said (get_or w.verified b false)) (verdict.Refused OutOfRange)
+          → cond t (Ok (get_or v.verified b false)) (Err OutOfRange) ≡ cond t (Ok (get_or w.verified b false)) (Err OutOfRange)
       by false e = refl
-      by true e = ap said (alike (subst (λ (x : ℕ). b < x) (sym shape.counts ∙ sized.count) (ltb-true b (length w.verified) e))).verified
+      by true e = ap Ok (alike (subst (λ (x : ℕ). b < x) (sym shape.counts ∙ sized.count) (ltb-true b (length w.verified) e))).verified

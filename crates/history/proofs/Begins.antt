@@ -1,5 +1,6 @@
 -- What a begin leaves: only free bytes differ, the inactive table is staged, and each staged view shows what the committed one does. Assumes
 -- nothing.
+use Rattle.std.specs.Prelude.{Ok}
 use mathlib.Core.Path.{◌≡◌, refl, sym, ap, ◌∙◌, subst}
 use mathlib.Core.Bool.{Bool, true, false, not, ◌||◌, cond, true≢false, or-true}
 use mathlib.Core.List.{List}
@@ -12,7 +13,6 @@ use borrow.Author.Tests.{eq-eqb}
 use Rattle.number.specs.Frame.{Keeps}
 use Rattle.number.proofs.FrameLaws.{keeps_trans, keeps_more}
 use Rattle.layout.specs.declared.Container.{Container}
-use Rattle.layout.specs.declared.Opened.TheVariants as opening
 use Rattle.layout.specs.Tables.{active, inactive}
 use Rattle.layout.specs.Opening.{opened}
 use Rattle.layout.specs.Guarantees.{Guarantees}
@@ -192,7 +192,7 @@ module _ (image : List ℕ) (c : Container) (g : Guarantees image c) where
     outer = λ e y l. outside_stays image after c g None (λ i. absurd) (left after r) q h y e l (λ n. n);
   }
 
-pub begins : (image : List ℕ) (c : Container) → opened image ≡ opening.Valid c → BeginLaws c image
+pub begins : (image : List ℕ) (c : Container) → opened image ≡ Ok c → BeginLaws c image
 begins image c o =
     let g = guarantees image c o in
     let r = ready image c g in

@@ -1,4 +1,5 @@
 -- The calls taken apart: what a refused call leaves, and what an accepted one was. Assumes nothing.
+use Rattle.std.specs.Prelude.{Result, Ok, Err}
 use mathlib.Core.Path.{◌≡◌, refl, sym, ap, ◌∙◌, subst}
 use mathlib.Core.Bool.{Bool, true, false, cond, true≢false}
 use mathlib.Core.List.{List}
@@ -8,8 +9,6 @@ use lib.ListN.{length}
 use lib.Dec.{eqb, leb, ltb}
 use borrow.Author.Tests.{leb-true, ltb-true}
 use Rattle.layout.specs.declared.Container.{Container}
-use Rattle.layout.specs.declared.Opened.{Opened}
-use Rattle.layout.specs.declared.Opened.TheVariants as opening
 use Rattle.layout.specs.declared.Refusal.{Refusal}
 use Rattle.layout.specs.declared.Refusal.TheVariants.{NoPartition, OutOfRange, SessionState}
 use Rattle.layout.specs.Headers.{header_bytes}
@@ -17,19 +16,17 @@ use Rattle.layout.specs.Opening.{opened}
 use Rattle.ivfc.specs.declared.View.{View}
 use Rattle.update.specs.Staged.{written_to, holds_zero}
 use Rattle.views.specs.Places.{partitions, staged_view}
-use Rattle.layout.specs.declared.Outcome.{Outcome}
-use Rattle.layout.specs.declared.Outcome.TheVariants as outcome
-use Rattle.save.specs.Answers.{listed_says, sought_says}
+use Rattle.save.specs.Answers.{sought_says}
 use Rattle.save.specs.Calls.{list_names, find_file}
 use Rattle.faults.specs.Faults.{count_faults}
-use Rattle.layout.specs.Refusals.{Said, opened_says, outcome_says}
+use Rattle.layout.specs.Refusals.{Said, outcome_says, count_says}
 use Rattle.steps.specs.declared.Ending.TheVariants as ending
-use Rattle.steps.specs.Answers.{verdict_says, count_says}
+use Rattle.steps.specs.Answers.{verdict_says}
 use Rattle.steps.specs.declared.Session.{Session}
 use Rattle.steps.specs.Reading.{refuse_outside}
 use Rattle.steps.specs.Sessions.{idle, begun_with, begun_image, current, write_outcome}
 use Rattle.signing.specs.declared.Signer.{Signer}
-use Rattle.signing.specs.Calls.{Answer, Signs, signed, built_as, built_says, outcome_of}
+use Rattle.signing.specs.Calls.{Answer, Signs, signed, built_as, outcome_of}
 use Rattle.signing.specs.Calls as signing
 use Rattle.commits.specs.Committing.{header_committed, committed_image, committed_signed}
 use Rattle.steps.specs.Calls.{After, unchanged, done, finished, leaving, read_committed, read_staged, is_verified, count_verified, while_idle, while_begun, entered, goes_on, begin_on, begin, write_on, write, commit_on, commit, commit_by, commit_signed, abandon, Abandoned, landed}
@@ -49,16 +46,16 @@ not_both a r = let z : ◌≡◌ {A = ℕ} 0 1 = cc in absurd (omega arith)
 
 -- ---- an outcome that is accepted passed its checks
 
-pub passed : (t : Bool) (o : Outcome) (r : Refusal) → cond t o (outcome.Refused r) ≡ outcome.Accepted → (t ≡ true) × (o ≡ outcome.Accepted)
+pub passed : (t : Bool) (o : Result (Unit {0}) Refusal) (r : Refusal) → cond t o (Err r) ≡ Ok tt → (t ≡ true) × (o ≡ Ok tt)
 passed true o r e = (refl, e)
 passed false o r e = let z : ◌≡◌ {A = ℕ} 0 1 = cc in absurd (omega arith)
 
-pub unrefused : (t : Bool) (o : Outcome) (r : Refusal) → cond t (outcome.Refused r) o ≡ outcome.Accepted → (t ≡ false) × (o ≡ outcome.Accepted)
+pub unrefused : (t : Bool) (o : Result (Unit {0}) Refusal) (r : Refusal) → cond t (Err r) o ≡ Ok tt → (t ≡ false) × (o ≡ Ok tt)
 unrefused true o r e = let z : ◌≡◌ {A = ℕ} 0 1 = cc in absurd (omega arith)
 unrefused false o r e = (refl, e)
 
 -- a write that is accepted lies in level 4
-pub write_fits : (view : View) (image : List ℕ) (place n : ℕ) → write_outcome view image place n ≡ outcome.Accepted → place + n ≤ view.level4.size
+pub write_fits : (view : View) (image : List ℕ) (place n : ℕ) → write_outcome view image place n ≡ Ok tt → place + n ≤ view.level4.size
 unfolding write_outcome refuse_outside
 write_fits view image place n e = leb-true (place + n) view.level4.size (passed (leb (place + n) view.level4.size) _ OutOfRange e).0
 
@@ -83,14 +80,14 @@ unfolding finished
 kept_finished st view place bytes session after =
     kept_cond (holds_zero view place bytes after) st _ _ (λ e. not_dropped refl e) (kept_done st after session)
 
-kept_leaving : (st : State) (o : Outcome) (next : After) → Kept st next → Kept st (leaving o st.image st.session next)
-kept_leaving st outcome.Accepted next k = k
-kept_leaving st (outcome.Refused r) next k = λ e. refl
+kept_leaving : (st : State) (o : Result (Unit {0}) Refusal) (next : After) → Kept st next → Kept st (leaving o st.image st.session next)
+kept_leaving st (Ok tt) next k = k
+kept_leaving st (Err r) next k = λ e. refl
 
 -- whatever is checked first
-pub kept_on : (st : State) (next : Container → After) → ((c : Container) → Kept st (next c)) → (o : Opened) → Kept st (goes_on st.image st.session next o)
-kept_on st next k (opening.Refused r) = λ e. refl
-kept_on st next k (opening.Valid c) = k c
+pub kept_on : (st : State) (next : Container → After) → ((c : Container) → Kept st (next c)) → (o : Result Container Refusal) → Kept st (goes_on st.image st.session next o)
+kept_on st next k (Err r) = λ e. refl
+kept_on st next k (Ok c) = k c
 
 kept_write : (st : State) (q place : ℕ) (bytes : List ℕ) (c : Container) → Kept st (write_on st.image st.session q place bytes c)
 kept_write st q place bytes c =
@@ -136,9 +133,9 @@ refused Abandon st e = by st.session.begun e
 abbrev pub Lasts : After → Type 0
 Lasts a = ending_of a.outcome ≡ Dropped → ⊥
 
-pub lasts_on : (image : List ℕ) (session : Session) (next : Container → After) → ((c : Container) → Lasts (next c)) → (o : Opened) → Lasts (goes_on image session next o)
-lasts_on image session next l (opening.Refused r) = λ e. not_dropped e refl
-lasts_on image session next l (opening.Valid c) = l c
+pub lasts_on : (image : List ℕ) (session : Session) (next : Container → After) → ((c : Container) → Lasts (next c)) → (o : Result Container Refusal) → Lasts (goes_on image session next o)
+lasts_on image session next l (Err r) = λ e. not_dropped e refl
+lasts_on image session next l (Ok c) = l c
 
 lasts_commit : (form : Form) (st : State) (c : Container) → Lasts (commit_next form st c)
 lasts_commit Plain st c = λ e. not_taken e refl
@@ -162,15 +159,15 @@ lasts_said s = by (eqb s.number 0)
 
 lasts_query : (query : Query) (st : State) → ruling (reply query st) ≡ Dropped → ⊥
 unfolding reply
-lasts_query (Open form) st = lasts_said (opened_says (opened_as form st.image))
+lasts_query (Open form) st = lasts_said (outcome_says (opened_as form st.image))
 lasts_query (ReadCommitted q place buffer) st = lasts_said (outcome_says (read_committed st.image q place buffer).outcome)
 lasts_query (ReadStaged q place buffer) st = lasts_said (outcome_says (read_staged st.image st.session q place buffer).outcome)
 lasts_query (IsVerified q b) st = lasts_said (verdict_says (is_verified st.image q b))
 lasts_query (CountVerified q) st = lasts_said (count_says (count_verified st.image q))
 lasts_query (ListFaults row) st = lasts_said (count_says (count_faults st.image))
-lasts_query (SigningBlock signer buffer) st = lasts_said (built_says (built_as (signed st.image signer)))
+lasts_query (SigningBlock signer buffer) st = lasts_said (count_says (built_as (signed st.image signer)))
 lasts_query (SigningDigest signer buffer) st = lasts_said (outcome_says (outcome_of (signed st.image signer)))
-lasts_query (ListNames row) st = lasts_said (listed_says (list_names st.image row).answer)
+lasts_query (ListNames row) st = lasts_said (count_says (list_names st.image row).answer)
 lasts_query (FindFile folder name) st = lasts_said (sought_says (find_file st.image folder name))
 
 abbrev pub is_write : Call → Bool
@@ -203,9 +200,9 @@ idle_session : (image : List ℕ) (session : Session) (next : Container → Afte
 unfolding entered
 idle_session image session next i = by (opened image)
   where
-    by : (o : Opened) → ending_of (goes_on image session next (while_begun image session o)).outcome ≡ Refused
-    by (opening.Refused r) = refl
-    by (opening.Valid c) = rw i
+    by : (o : Result Container Refusal) → ending_of (goes_on image session next (while_begun image session o)).outcome ≡ Refused
+    by (Err r) = refl
+    by (Ok c) = rw i
 
 pub idles : (c : Call) (st : State) → needs_begun c ≡ true → st.session.begun ≡ false → ruled c st ≡ Refused
 unfolding perform write abandon
@@ -225,15 +222,15 @@ went true a b r e = (refl, refl, e)
 went false a b r e = absurd (e r)
 
 -- and by its first checks
-pub went_on : (image : List ℕ) (session : Session) (next : Container → After) (o : Opened) → (ending_of (goes_on image session next o).outcome ≡ Refused → ⊥)
-    → (c : Container) × (o ≡ opening.Valid c)
-went_on image session next (opening.Refused r) e = absurd (e refl)
-went_on image session next (opening.Valid c) e = (c, refl)
+pub went_on : (image : List ℕ) (session : Session) (next : Container → After) (o : Result Container Refusal) → (ending_of (goes_on image session next o).outcome ≡ Refused → ⊥)
+    → (c : Container) × (o ≡ Ok c)
+went_on image session next (Err r) e = absurd (e refl)
+went_on image session next (Ok c) e = (c, refl)
 
-took_leaving : (o : Outcome) (image : List ℕ) (session : Session) (next : After) → (ending_of (leaving o image session next).outcome ≡ Refused → ⊥)
-    → (o ≡ outcome.Accepted) × (leaving o image session next ≡ next)
-took_leaving outcome.Accepted image session next e = (refl, refl)
-took_leaving (outcome.Refused r) image session next e = absurd (e refl)
+took_leaving : (o : Result (Unit {0}) Refusal) (image : List ℕ) (session : Session) (next : After) → (ending_of (leaving o image session next).outcome ≡ Refused → ⊥)
+    → (o ≡ Ok tt) × (leaving o image session next ≡ next)
+took_leaving (Ok tt) image session next e = (refl, refl)
+took_leaving (Err r) image session next e = absurd (e refl)
 
 -- a finished write, accepted or dropped
 took_zero : (t : Bool) (after : List ℕ) (session : Session)
@@ -249,7 +246,7 @@ drop_zero true after session e = (refl, refl)
 drop_zero false after session e = not_taken e refl
 
 -- of an image that opens as c
-module _ (image : List ℕ) (session : Session) (c : Container) (o : opened image ≡ opening.Valid c) where
+module _ (image : List ℕ) (session : Session) (c : Container) (o : opened image ≡ Ok c) where
   pub record Begun : Type 0 where
     pub idle : session.begun ≡ false
     pub after : begin image session ≡ done (begun_image c image) (begun_with (header_bytes image))
@@ -258,7 +255,7 @@ module _ (image : List ℕ) (session : Session) (c : Container) (o : opened imag
   unfolding begin
   begun_by e =
       let (d, f) = went_on image session (begin_on image) (while_idle session (opened image)) (λ r. not_both e r) in
-      let g : while_idle session (opened image) ≡ opening.Valid c = f ∙ sym (idle_is session (opened image) d f).0 ∙ o in
+      let g : while_idle session (opened image) ≡ Ok c = f ∙ sym (idle_is session (opened image) d f).0 ∙ o in
       record { idle = (idle_is session (opened image) c g).1; after = ap (goes_on image session (begin_on image)) g }
 
   -- one of a begun session passed 13 and 14
@@ -271,13 +268,13 @@ module _ (image : List ℕ) (session : Session) (c : Container) (o : opened imag
   pub reached_by : (next : Container → After) → (ending_of (goes_on image session next (entered image session)).outcome ≡ Refused → ⊥) → Reached next
   reached_by next e =
       let (d, f) = went_on image session next (entered image session) e in
-      let g : entered image session ≡ opening.Valid c = f ∙ sym (entered_is image session d f).0 ∙ o in
+      let g : entered image session ≡ Ok c = f ∙ sym (entered_is image session d f).0 ∙ o in
       let (p, b, n) = entered_is image session c g in
       record {
         begun = b;
         current = n;
         after = ap (goes_on image session next) g;
-        unrefused = subst (λ (x : Opened). ending_of (goes_on image session next x).outcome ≡ Refused → ⊥) g e;
+        unrefused = subst (λ (x : Result Container Refusal). ending_of (goes_on image session next x).outcome ≡ Refused → ⊥) g e;
       }
 
   -- and is accepted if what it came to is
@@ -289,7 +286,7 @@ module _ (image : List ℕ) (session : Session) (c : Container) (o : opened imag
     pub begun : session.begun ≡ true
     pub current : current c image session ≡ true
     pub there : q < partitions c
-    pub allowed : write_outcome (staged_view c q) image place (length bytes) ≡ outcome.Accepted
+    pub allowed : write_outcome (staged_view c q) image place (length bytes) ≡ Ok tt
     pub made : write image session q place bytes ≡ finished (staged_view c q) place bytes session (written_to (staged_view c q) place bytes image)
 
   pub finished_by : (q place : ℕ) (bytes : List ℕ) → (ending_of (write image session q place bytes).outcome ≡ Refused → ⊥) → Finished q place bytes
@@ -354,7 +351,7 @@ unfolding committed_signed
 took_signed image session key signer c (Signs block) e = refl
 took_signed image session key signer c (signing.Refused r) e = not_both e refl
 
-pub committed_by : (form : Form) (st : State) (c : Container) → opened st.image ≡ opening.Valid c → ruled (Commit form) st ≡ Accepted → Committed form st c
+pub committed_by : (form : Form) (st : State) (c : Container) → opened st.image ≡ Ok c → ruled (Commit form) st ≡ Accepted → Committed form st c
 unfolding perform committed_image
 committed_by form st c o e =
     let a = sym (ap (λ (a : After). ending_of a.outcome) (commit_is form st)) ∙ e in
@@ -365,7 +362,7 @@ committed_by form st c o e =
     lands Plain a = refl
     lands (Signed key signer) a = took_signed st.image st.session key signer c (signed st.image signer) a
 
-pub signed_first : (key : List ℕ) (signer : Signer) (st : State) (c : Container) → opened st.image ≡ opening.Valid c
+pub signed_first : (key : List ℕ) (signer : Signer) (st : State) (c : Container) → opened st.image ≡ Ok c
     → ruled (Commit (Signed key signer)) st ≡ Accepted → (block : List ℕ) × (signed st.image signer ≡ Signs block)
 unfolding perform
 signed_first key signer st c o e =
@@ -379,11 +376,11 @@ signed_first key signer st c o e =
     by (signing.Refused r) k e = not_both e refl
 
 -- no call changes an image that does not open
-unopened_on : (image : List ℕ) (session : Session) (next : Container → After) (o : Opened) → ((c : Container) → o ≡ opening.Valid c → ⊥) → (goes_on image session next o).image ≡ image
-unopened_on image session next (opening.Valid c) h = absurd (h c refl)
-unopened_on image session next (opening.Refused r) h = refl
+unopened_on : (image : List ℕ) (session : Session) (next : Container → After) (o : Result Container Refusal) → ((c : Container) → o ≡ Ok c → ⊥) → (goes_on image session next o).image ≡ image
+unopened_on image session next (Ok c) h = absurd (h c refl)
+unopened_on image session next (Err r) h = refl
 
-pub unopened : (call : Call) (st : State) → ((c : Container) → opened st.image ≡ opening.Valid c → ⊥) → (next call st).image ≡ st.image
+pub unopened : (call : Call) (st : State) → ((c : Container) → opened st.image ≡ Ok c → ⊥) → (next call st).image ≡ st.image
 unfolding perform begin write
 unopened (Ask query) st h = refl
 unopened Begin st h = unopened_on st.image st.session (begin_on st.image) (while_idle st.session (opened st.image)) (λ c e. h c (idle_is st.session (opened st.image) c e).0)
@@ -410,7 +407,7 @@ unfolding idle
 idle_rests = refl
 
 -- an accepted commit is one of an image that opens, and leaves an idle session
-pub opens_first : (form : Form) (st : State) → ruled (Commit form) st ≡ Accepted → (c : Container) × (opened st.image ≡ opening.Valid c)
+pub opens_first : (form : Form) (st : State) → ruled (Commit form) st ≡ Accepted → (c : Container) × (opened st.image ≡ Ok c)
 unfolding perform
 opens_first form st e =
     let a = sym (ap (λ (a : After). ending_of a.outcome) (commit_is form st)) ∙ e in

@@ -1,16 +1,15 @@
 -- What the theorem needs to know of the calls' definitions, of an image that opens.
+use Rattle.std.specs.Prelude.{Ok}
 use mathlib.Core.Path.{◌≡◌}
 use mathlib.Core.Bool.{true, false}
 use mathlib.Core.List.{List}
 use Prim.Native.Nat.{ℕ, ◌≤◌, ◌<◌}
 use lib.ListN.{length, get_or}
 use Rattle.layout.specs.declared.Container.{Container}
-use Rattle.layout.specs.declared.Opened.TheVariants as opening
 use Rattle.layout.specs.Headers.{header_bytes}
 use Rattle.layout.specs.Opening.{opened}
 use Rattle.update.specs.Staged.{written_to, holds_zero}
 use Rattle.views.specs.Places.{partitions, partition_of, committed_view, staged_view}
-use Rattle.layout.specs.declared.Outcome.TheVariants as outcome
 use Rattle.steps.specs.Sessions.{begun_image, table_staged, write_outcome}
 use Rattle.commits.specs.Committing.{header_committed}
 use Rattle.history.specs.Model.{laid_over, Form}
@@ -42,18 +41,18 @@ pub record Headed (c : Container) (image after : List ℕ) : Type 0 where
 -- such an image opens with the same partitions, and commits what was staged
 pub record CommitLaws (c : Container) (image after : List ℕ) : Type 0 where
   pub container : Container
-  pub opens : opened after ≡ opening.Valid container
+  pub opens : opened after ≡ Ok container
   pub kind : container.header.kind ≡ c.header.kind
   pub count : partitions container ≡ partitions c
   pub internal : (q : ℕ) → q < partitions c → (partition_of container q).difi.external ≡ (partition_of c q).difi.external
   pub version : (q : ℕ) → q < partitions c → version_of (committed_view container q) after ≡ version_of (staged_view c q) image
 
 pub record CallLaws : Type 0 where
-  pub begin : (image : List ℕ) (c : Container) → opened image ≡ opening.Valid c → BeginLaws c image
-  pub write : (image : List ℕ) (c : Container) → opened image ≡ opening.Valid c → (q place : ℕ) (bytes : List ℕ) → q < partitions c
-      → write_outcome (staged_view c q) image place (length bytes) ≡ outcome.Accepted
+  pub begin : (image : List ℕ) (c : Container) → opened image ≡ Ok c → BeginLaws c image
+  pub write : (image : List ℕ) (c : Container) → opened image ≡ Ok c → (q place : ℕ) (bytes : List ℕ) → q < partitions c
+      → write_outcome (staged_view c q) image place (length bytes) ≡ Ok tt
       → WriteLaws c q place bytes image (written_to (staged_view c q) place bytes image)
-  pub commit : (image : List ℕ) (c : Container) → opened image ≡ opening.Valid c → table_staged c image ≡ true
+  pub commit : (image : List ℕ) (c : Container) → opened image ≡ Ok c → table_staged c image ≡ true
       → (after : List ℕ) → Headed c image after → CommitLaws c image after
   -- a commit of either form leaves such an image
-  pub units : (image : List ℕ) (c : Container) → opened image ≡ opening.Valid c → (form : Form) → Headed c image (landed_image form c image)
+  pub units : (image : List ℕ) (c : Container) → opened image ≡ Ok c → (form : Form) → Headed c image (landed_image form c image)

@@ -1,5 +1,6 @@
 -- What a commit leaves: an image that opens with the other table active, and whose committed views are what the staged ones were. Assumes
 -- nothing.
+use Rattle.std.specs.Prelude.{Ok, Option, Some, None}
 use mathlib.Core.Path.{◌≡◌, refl, sym, ap, ◌∙◌, subst}
 use mathlib.Core.Bool.{Bool, true, false, not, cond}
 use mathlib.Core.List.{List}
@@ -21,12 +22,7 @@ use Rattle.sha256.proofs.Laws.{length_sha256}
 use Rattle.layout.specs.declared.Container.{Container}
 use Rattle.layout.specs.declared.Difi.{Difi}
 use Rattle.layout.specs.declared.Partition.{Partition}
-use Rattle.layout.specs.declared.Second.{Second}
-use Rattle.layout.specs.declared.Second.TheVariants.{Missing, There}
 use Rattle.layout.specs.declared.Slot.{Slot}
-use Rattle.layout.specs.declared.Opened.TheVariants as opening
-use Rattle.layout.specs.declared.JudgedHeader.TheVariants.{GoodHeader}
-use Rattle.layout.specs.declared.JudgedPartition.TheVariants.{GoodPartition}
 use Rattle.layout.specs.Headers.{front, header_bytes, hash_range, judged_header}
 use Rattle.layout.specs.Tables.{active, inactive, table_matches}
 use Rattle.layout.specs.Descriptors.{difi_fields, partition_fields}
@@ -52,9 +48,9 @@ use Rattle.layout.proofs.TableLaws.{part_length}
 use Rattle.history.proofs.Units.{header_size}
 
 -- the container that is opened afterwards: the flag and each partition's selector are flipped
-abbrev second_flipped : Second → Second
-second_flipped Missing = Missing
-second_flipped (There b) = There (partition_flipped b)
+abbrev second_flipped : Option Partition → Option Partition
+second_flipped None = None
+second_flipped (Some b) = Some (partition_flipped b)
 
 abbrev pub switched : Container → Container
 switched c = record { header = header_flipped c.header; a = partition_flipped c.a; b = second_flipped c.b }
@@ -63,10 +59,10 @@ switched_partition : (c : Container) (q : ℕ) → partition_of (switched c) q �
 unfolding partition_of
 switched_partition c q = by (eqb q 0) c.b
   where
-    by : (t : Bool) (b : Second) → cond t (partition_flipped c.a) (second_or (partition_flipped c.a) (second_flipped b)) ≡ partition_flipped (cond t c.a (second_or c.a b))
+    by : (t : Bool) (b : Option Partition) → cond t (partition_flipped c.a) (second_or (partition_flipped c.a) (second_flipped b)) ≡ partition_flipped (cond t c.a (second_or c.a b))
     by true b = refl
-    by false Missing = refl
-    by false (There b) = refl
+    by false None = refl
+    by false (Some b) = refl
 
 other_table : (flag : ℕ) (primary secondary : Range) → (flag ≡ 0) ⊎ (flag ≡ 1)
     → cond (eqb (1 - flag) 0) primary secondary ≡ cond (eqb flag 0) secondary primary
@@ -84,7 +80,7 @@ other_half selector h = by (zero_or_one selector h)
     by (inl e) = rw e
     by (inr e) = rw e
 
-module _ (image : List ℕ) (c : Container) (o : opened image ≡ opening.Valid c) (staged : table_staged c image ≡ true)
+module _ (image : List ℕ) (c : Container) (o : opened image ≡ Ok c) (staged : table_staged c image ≡ true)
     (after : List ℕ) (headed : Headed c image after) where
   g : Guarantees image c
   g = guarantees image c o
@@ -116,7 +112,7 @@ module _ (image : List ℕ) (c : Container) (o : opened image ≡ opening.Valid 
   unfolding active inactive
   table_flipped = other_table c.header.flag c.header.primary c.header.secondary g.header.flag
 
-  header_good : judged_header (length after) (header_bytes after) ≡ GoodHeader (header_flipped c.header)
+  header_good : judged_header (length after) (header_bytes after) ≡ Ok (header_flipped c.header)
   unfolding header_committed
   header_good =
       ap (λ (n : ℕ). judged_header n (header_bytes after)) headed.size ∙ ap (judged_header (length image)) headed.header
@@ -190,35 +186,35 @@ module _ (image : List ℕ) (c : Container) (o : opened image ≡ opening.Valid 
               ∙ staged_other image c g (slot.descriptor.offset + j) (off_selectors image c g q h j k ne) ∙ sym (byte_of A slot.descriptor j k);
         }
 
-    judged_flipped : judged_slot A slot ≡ GoodPartition p → judged_slot S slot ≡ GoodPartition (partition_flipped p)
+    judged_flipped : judged_slot A slot ≡ Ok p → judged_slot S slot ≡ Ok (partition_flipped p)
     judged_flipped e =
         let k = partition_checked slot.partition.size (part A slot.descriptor) p e in
         let f = described_as in
         flipped_judged slot.partition.size (part A slot.descriptor) (part S slot.descriptor) restaged
         (rw f at k.form) (rw f at k.places)
         (subst (λ (n : ℕ). PartitionGuarantees slot.partition.size n (partition_fields (part A slot.descriptor))) (sym old_size) (rw f at rules))
-        ∙ ap (λ (x : Partition). GoodPartition (partition_flipped x)) (sym f)
+        ∙ ap (λ (x : Partition). Ok (partition_flipped x)) (sym f)
 
-  first_good : judged_slot S c.header.a ≡ GoodPartition (partition_flipped c.a)
+  first_good : judged_slot S c.header.a ≡ Ok (partition_flipped c.a)
   unfolding slot_of partition_of
   first_good = judged_flipped 0 (first_there (length image) c.header g.header) (checked image c o).table.first
 
-  second_flipped_lem : (b : Partition) → c.b ≡ There b → eqb c.header.count 2 ≡ true → judged_slot (part image (active c.header)) c.header.b ≡ GoodPartition b
-      → judged_slot S c.header.b ≡ GoodPartition (partition_flipped b)
+  second_flipped_lem : (b : Partition) → c.b ≡ Some b → eqb c.header.count 2 ≡ true → judged_slot (part image (active c.header)) c.header.b ≡ Ok b
+      → judged_slot S c.header.b ≡ Ok (partition_flipped b)
   unfolding slot_of partition_of
   second_flipped_lem b e two k =
       let q : second_or c.a c.b ≡ b = ap (second_or c.a) e in
       let n = eqb-true c.header.count 2 two in
-      judged_flipped 1 (omega arith) (k ∙ ap GoodPartition (sym q)) ∙ ap (λ (x : Partition). GoodPartition (partition_flipped x)) q
+      judged_flipped 1 (omega arith) (k ∙ ap Ok (sym q)) ∙ ap (λ (x : Partition). Ok (partition_flipped x)) q
 
   second_good : SecondChecks S (header_flipped c.header) (second_flipped c.b)
   second_good = by c.b refl (checked image c o).table.second
     where
-      by : (b : Second) → c.b ≡ b → SecondChecks (part image (active c.header)) c.header b → SecondChecks S (header_flipped c.header) (second_flipped b)
-      by Missing e k = k
-      by (There b) e (two, k) = (two, second_flipped_lem b e two k)
+      by : (b : Option Partition) → c.b ≡ b → SecondChecks (part image (active c.header)) c.header b → SecondChecks S (header_flipped c.header) (second_flipped b)
+      by None e k = k
+      by (Some b) e (two, k) = (two, second_flipped_lem b e two k)
 
-  pub after_opens : opened after ≡ opening.Valid (switched c)
+  pub after_opens : opened after ≡ Ok (switched c)
   after_opens =
       let t : part after (active (header_flipped c.header)) ≡ S = ap (part after) table_flipped ∙ after_table_lem in
       opens after (switched c) (record {
@@ -293,7 +289,7 @@ module _ (image : List ℕ) (c : Container) (o : opened image ≡ opening.Valid 
         ap (λ (v : View). version_of v after) view_flipped
         ∙ sym (same_version (staged_view c q) new_view image after (length image) (staged_rules image c g q h) seen)
 
-pub commits : (image : List ℕ) (c : Container) → opened image ≡ opening.Valid c → table_staged c image ≡ true
+pub commits : (image : List ℕ) (c : Container) → opened image ≡ Ok c → table_staged c image ≡ true
     → (after : List ℕ) → Headed c image after → CommitLaws c image after
 commits image c o t after w = record {
   container = switched c;

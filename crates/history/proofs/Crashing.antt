@@ -1,4 +1,5 @@
 -- Power failure, from the laws of the calls: what an image that is left answers, and which bytes the calls store to. Assumes nothing else.
+use Rattle.std.specs.Prelude.{Ok}
 use mathlib.Core.Path.{◌≡◌, refl, sym, ap, ◌∙◌, subst}
 use mathlib.Core.List.{List, [], ◌∷◌}
 use mathlib.Core.Logic.{inl, inr}
@@ -9,7 +10,6 @@ use lib.ListN.{length}
 use borrow.Author.Tests.{eq-eqb}
 use Rattle.number.proofs.FrameLaws.{keeps_refl, keeps_trans, keeps_more}
 use Rattle.layout.specs.declared.Container.{Container}
-use Rattle.layout.specs.declared.Opened.TheVariants as opening
 use Rattle.layout.specs.Opening.{opened}
 use Rattle.steps.specs.Sessions.{begun_image}
 use Rattle.steps.specs.Calls.{After}
@@ -37,7 +37,7 @@ by_outer c e i (q, put, p, (h, x, r)) = (q, h, x)
 
 module _ (W : CallLaws) where
   -- no call but commit stores to a byte that is neither free nor written in place
-  spares_ruled : (call : Call) (r : Ruling) (st : State) (c : Container) → ruled call st ≡ r → ((form : Form) → call ≡ Commit form → ⊥) → opened st.image ≡ opening.Valid c
+  spares_ruled : (call : Call) (r : Ruling) (st : State) (c : Container) → ruled call st ≡ r → ((form : Form) → call ≡ Commit form → ⊥) → opened st.image ≡ Ok c
       → LeftBut (InPlaceBy c (Did call r)) c st.image (next call st).image
   unfolding perform
   spares_ruled call Refused st c e h o = subst (λ (s : State). LeftBut (InPlaceBy c (Did call Refused)) c st.image s.image) (sym (refused call st e)) (keeps_refl _ _)
@@ -60,12 +60,12 @@ module _ (W : CallLaws) where
   spares_ruled (Commit form) Dropped st c e h o = absurd (h form refl)
   spares_ruled Abandon Dropped st c e h o = absurd (lasts Abandon st refl e)
 
-  pub spares : (call : Call) (st : State) (c : Container) → ((form : Form) → call ≡ Commit form → ⊥) → opened st.image ≡ opening.Valid c
+  pub spares : (call : Call) (st : State) (c : Container) → ((form : Form) → call ≡ Commit form → ⊥) → opened st.image ≡ Ok c
       → LeftBut (InPlaceBy c (Did call (ruled call st))) c st.image (next call st).image
   spares call st c h o = spares_ruled call (ruled call st) st c refl h o
 
   -- nor does a call that is no accepted commit
-  pub spares_event : (call : Call) (r : Ruling) (st : State) (c : Container) → ruled call st ≡ r → commit_of (Did call r) ≡ 0 → opened st.image ≡ opening.Valid c
+  pub spares_event : (call : Call) (r : Ruling) (st : State) (c : Container) → ruled call st ≡ r → commit_of (Did call r) ≡ 0 → opened st.image ≡ Ok c
       → LeftBut (InPlaceBy c (Did call r)) c st.image (next call st).image
   spares_event call Refused st c e z o = subst (λ (s : State). LeftBut (InPlaceBy c (Did call Refused)) c st.image s.image) (sym (refused call st e)) (keeps_refl _ _)
   spares_event call Dropped st c e z o = spares_ruled call Dropped st c e (λ form q. lasts call st (ap is_write q) e) o
@@ -73,7 +73,7 @@ module _ (W : CallLaws) where
       spares_ruled call Accepted st c e (λ form q. let y : commit_of (Did (Commit form) Accepted) ≡ 0 = subst (λ (x : Call). commit_of (Did x Accepted) ≡ 0) q z in omega arith) o
 
   -- so no list does before an accepted commit, from whatever session
-  pub stores : (st : State) (calls : List Call) (c : Container) → opened st.image ≡ opening.Valid c → commits (events calls st) ≡ 0
+  pub stores : (st : State) (calls : List Call) (c : Container) → opened st.image ≡ Ok c → commits (events calls st) ≡ 0
       → LeftBut (InPlaceOf c (events calls st)) c st.image (after calls st).image
   unfolding after events commits InPlaceOf
   stores st [] c o z = keeps_refl _ _

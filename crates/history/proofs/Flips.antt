@@ -1,5 +1,6 @@
 -- What a commit does to opening's fields: a descriptor that differs from a good one in its selector and its master hash is good too, and so
 -- is a header that differs in its flag and its hash. Assumes nothing.
+use Rattle.std.specs.Prelude.{Ok}
 use mathlib.Core.Path.{◌≡◌, refl, sym, ap, ◌∙◌, subst}
 use mathlib.Core.Bool.{true, not, ◌&&◌, ◌||◌, cond}
 use mathlib.Core.List.{List, [], ◌∷◌}
@@ -21,8 +22,6 @@ use Rattle.layout.specs.declared.Kind.TheVariants.{Disa, Diff}
 use Rattle.layout.specs.declared.Header.{Header}
 use Rattle.layout.specs.declared.Difi.{Difi}
 use Rattle.layout.specs.declared.Partition.{Partition}
-use Rattle.layout.specs.declared.JudgedHeader.TheVariants.{GoodHeader}
-use Rattle.layout.specs.declared.JudgedPartition.TheVariants.{GoodPartition}
 use Rattle.limits.specs.Limits.{difi_size, ivfc_size, dpfs_size, master_allowed, count_allowed, flag_allowed}
 use Rattle.layout.specs.Every.{every}
 use Rattle.layout.specs.Magic.{opens_with, difi_magic}
@@ -160,7 +159,7 @@ module _ (size : ℕ) (d e : List ℕ) (r : Restaged d e) (form : form_allowed d
   unfolding places_allowed pieces_placed levels_placed all_enough
   flipped_places = ap (λ (n : ℕ). places_allowed size n (partition_flipped (partition_fields d))) r.size
 
-  pub flipped_judged : judged_partition size e ≡ GoodPartition (partition_flipped (partition_fields d))
+  pub flipped_judged : judged_partition size e ≡ Ok (partition_flipped (partition_fields d))
   unfolding judged_partition
   flipped_judged =
       rw (judged_partition, flipped_fields, flipped_form, form, flipped_places, places, le-leb difi_size (length e) (rw r.size g.difi_inside))
@@ -323,7 +322,7 @@ module _ (n : ℕ) (s hash : List ℕ) (h : Header) (size : length s ≡ 256) (d
   header_fields_lem Diff e =
       ap header_flipped e ∙ sym (diff_fields_lem (1 - h.flag) hash s size digest (ap (λ (x : Header). 1 - x.flag) e) (subst (λ (x : Header). x.flag ≤ 1) e small))
 
-  pub flipped_header : judged_header n (reheaded h.kind (1 - h.flag) hash s) ≡ GoodHeader (header_flipped h)
+  pub flipped_header : judged_header n (reheaded h.kind (1 - h.flag) hash s) ≡ Ok (header_flipped h)
   flipped_header =
       header_passes n (reheaded h.kind (1 - h.flag) hash s) (header_flipped h)
       (record { magic = header_magic_lem h.kind k.magic; fields = header_fields_lem h.kind k.fields; selection = flipped_selection; geometry = flipped_geometry })

@@ -1,4 +1,5 @@
 -- Every list of calls follows the model, from the laws of the calls. Assumes nothing else.
+use Rattle.std.specs.Prelude.{Ok}
 use mathlib.Core.Path.{◌≡◌, refl, ap, ◌∙◌, subst}
 use mathlib.Core.Bool.{Bool, true, false, cond}
 use mathlib.Core.List.{List, [], ◌∷◌}
@@ -10,7 +11,6 @@ use borrow.Author.Tests.{eqb-true}
 use Rattle.number.specs.declared.Level.{Level}
 use Rattle.layout.specs.declared.Container.{Container}
 use Rattle.views.specs.Places.{committed_view}
-use Rattle.steps.specs.declared.Count.TheVariants as count
 use Rattle.steps.specs.declared.Session.{Session}
 use Rattle.steps.specs.Sessions.{current}
 use Rattle.steps.specs.Calls.{read_committed, read_staged, is_verified, count_verified}
@@ -130,9 +130,9 @@ module _ (W : CallLaws) where
         ap Judging (ap (λ (z : ℕ). is_verified st.image z b) o.0
         ∙ judged st.image c g.has.opens p g.has.there b ∙ ap (λ (v : Version). judged_of v b) g.committed) ∙ o.1
     answers (CountVerified q) a e =
-        let o = own q p (Counting (count.Blocks (count_true m.committed.verified))) a e in
+        let o = own q p (Counting (Ok (count_true m.committed.verified))) a e in
         ap Counting (ap (count_verified st.image) o.0
-        ∙ counted st.image c g.has.opens p g.has.there ∙ ap (λ (v : Version). count.Blocks (count_true v.verified)) g.committed) ∙ o.1
+        ∙ counted st.image c g.has.opens p g.has.there ∙ ap (λ (v : Version). Ok (count_true v.verified)) g.committed) ∙ o.1
     answers (ListFaults row) a e = never e
     answers (SigningBlock signer buffer) a e = never e
     answers (SigningDigest signer buffer) a e = never e

@@ -1,11 +1,11 @@
 -- What demand 3 said before writes in place, from what it says now. Assumes nothing.
+use Rattle.std.specs.Prelude.{Ok}
 use mathlib.Core.Path.{◌≡◌, sym, ◌∙◌, subst}
 use mathlib.Core.Bool.{false, true≢false}
 use mathlib.Core.List.{List, [], ◌∷◌, append-nil}
 use mathlib.Core.Logic.{inl, inr}
 use Prim.Native.Nat.{ℕ}
 use Rattle.layout.specs.declared.Container.{Container}
-use Rattle.layout.specs.declared.Opened.TheVariants as opening
 use Rattle.layout.specs.Opening.{opened}
 use Rattle.views.specs.Places.{partition_of}
 use Rattle.views.specs.Protected.{ExternalByte, AgreesBut, Agrees}
@@ -42,7 +42,7 @@ of_internal c list q b n x t = true≢false (sym x ∙ n)
 -- ---- the theorems
 
 module _ (D : Demand3) where
-  answers : (image left : List ℕ) (c : Container) → opened image ≡ opening.Valid c → Agrees c image left → SameAnswers image left
+  answers : (image left : List ℕ) (c : Container) → opened image ≡ Ok c → Agrees c image left → SameAnswers image left
   answers image left c o k =
       let a = D.crash.answers image left c [] o (agrees_more (λ i. ⊥) (InPlaceOf c []) c image left (λ i. absurd) k) in
       record {
@@ -57,7 +57,7 @@ module _ (D : Demand3) where
         finds = a.finds;
       }
 
-  beside : (image left : List ℕ) (c : Container) (list : List Event) → opened image ≡ opening.Valid c → AgreesBut (InPlaceOf c list) c image left
+  beside : (image left : List ℕ) (c : Container) (list : List Event) → opened image ≡ Ok c → AgreesBut (InPlaceOf c list) c image left
       → (q : ℕ) → (partition_of c q).difi.external ≡ false → SameOf q image left
   beside image left c list o k q n =
       let a = D.crash.answers image left c list o k in

@@ -1,4 +1,7 @@
 -- "The 0x100 bytes at the front are never read or changed": every call, of what reads (Fronts) and of what stores (FrontStores). Assumes nothing.
+use Rattle.std.specs.Result.{is_ok}
+use Rattle.std.specs.Prelude.{Result, Ok, Err}
+use Rattle.layout.specs.declared.Refusal.{Refusal}
 use mathlib.Core.Path.{◌≡◌, refl, sym, ap, ◌∙◌, subst}
 use mathlib.Core.Bool.{Bool, true, false, ◌&&◌, cond}
 use mathlib.Core.List.{List, [], ◌∷◌}
@@ -18,10 +21,6 @@ use Rattle.number.proofs.ListLaws.{outside_or_in, get_d_part, sets_in, sets_out}
 use Rattle.number.proofs.OrderLaws.{sets_after, sets_again, sets_parts}
 use Rattle.sha256.specs.Sha256.{sha256}
 use Rattle.layout.specs.declared.Container.{Container}
-use Rattle.layout.specs.declared.Opened.{Opened}
-use Rattle.layout.specs.declared.Opened.TheVariants as opening
-use Rattle.layout.specs.declared.Outcome.{Outcome}
-use Rattle.layout.specs.declared.Outcome.TheVariants as outcome
 use Rattle.layout.specs.declared.Refusal.TheVariants.{NoPartition, NothingToRevert}
 use Rattle.layout.specs.Headers.{header_bytes, flag_offset, hash_range}
 use Rattle.layout.specs.Tables.{inactive}
@@ -42,7 +41,7 @@ use Rattle.views.specs.Places.{partitions, staged_view}
 use Rattle.views.proofs.PlaceLaws.{inactive_table}
 use Rattle.steps.specs.declared.Ending.TheVariants as ending
 use Rattle.steps.specs.declared.Session.{Session}
-use Rattle.steps.specs.Sessions.{idle, begun_with, remembering, ends_outcome, write_outcome, is_valid, revertible}
+use Rattle.steps.specs.Sessions.{idle, begun_with, remembering, ends_outcome, write_outcome, revertible}
 use Rattle.steps.specs.Calls.{while_idle, entered, while_revertible, entered_back, After, unchanged, done, goes_on, begin_on, begin, finished, leaving, write_to, write_on, write, landed, commit_on, commit, commit_by, commit_signed, revert_on, revert, revert_by, revert_signed}
 use Rattle.steps.proofs.EnterLaws.{idle_is, entered_is}
 use Rattle.faults.specs.Faults.{row_after}
@@ -120,19 +119,19 @@ module _ (p : ℕ) (bytes : List ℕ) (h : p + length bytes ≤ 0x100) where
 
   module _ (image : List ℕ) (session : Session) where
     -- a call that goes on alike leaves it alike
-    goes : (next next' : Container → After) (o : Opened) → ((c : Container) → o ≡ opening.Valid c → next' c ≡ laid_after (next c))
+    goes : (next next' : Container → After) (o : Result Container Refusal) → ((c : Container) → o ≡ Ok c → next' c ≡ laid_after (next c))
         → goes_on (laid image) session next' o ≡ laid_after (goes_on image session next o)
-    goes next next' (opening.Refused r) n = refl
-    goes next next' (opening.Valid c) n = n c refl
+    goes next next' (Err r) n = refl
+    goes next next' (Ok c) n = n c refl
 
     begins : begin (laid image) session ≡ laid_after (begin image session)
     unfolding begin
     begins =
-        ap (λ (o : Opened). goes_on (laid image) session (begin_on (laid image)) (while_idle session o)) (front_opened image (laid image) (front image))
+        ap (λ (o : Result Container Refusal). goes_on (laid image) session (begin_on (laid image)) (while_idle session o)) (front_opened image (laid image) (front image))
         ∙ goes (begin_on image) (begin_on (laid image)) (while_idle session (opened image))
         (λ c e i. done (begin_laid p bytes h image c (guarantees image c (idle_is session (opened image) c e).0) i) (begun_with (front_header image (laid image) (front image) i)))
 
-    in_session : (next next' : Container → After) → ((c : Container) → opened image ≡ opening.Valid c → next' c ≡ laid_after (next c))
+    in_session : (next next' : Container → After) → ((c : Container) → opened image ≡ Ok c → next' c ≡ laid_after (next c))
         → goes_on (laid image) session next' (entered (laid image) session) ≡ laid_after (goes_on image session next (entered image session))
     in_session next next' n =
         ap (goes_on (laid image) session next') (front_entered image (laid image) (front image) session)
@@ -156,15 +155,15 @@ module _ (p : ℕ) (bytes : List ℕ) (h : p + length bytes ≤ 0x100) where
           branch (holds_zero view x values after) (holds_zero view x values (laid after)) (record { outcome = ending.Dropped; image = after; session = idle }) (done after session) _ _
           (zeros after values) refl refl
 
-    leaves : (o : Outcome) (n n' : After) → n' ≡ laid_after n → leaving o (laid image) session n' ≡ laid_after (leaving o image session n)
-    leaves outcome.Accepted n n' e = e
-    leaves (outcome.Refused r) n n' e = refl
+    leaves : (o : Result (Unit {0}) Refusal) (n n' : After) → n' ≡ laid_after n → leaving o (laid image) session n' ≡ laid_after (leaving o image session n)
+    leaves (Ok tt) n n' e = e
+    leaves (Err r) n n' e = refl
 
     writes : (q x : ℕ) (values : List ℕ) → write (laid image) session q x values ≡ laid_after (write image session q x values)
     unfolding write
     writes q x values = in_session (write_on image session q x values) (write_on (laid image) session q x values) (λ c o. by c o (ltb q (partitions c)) refl)
       where
-        by : (c : Container) → opened image ≡ opening.Valid c → (t : Bool) → ltb q (partitions c) ≡ t
+        by : (c : Container) → opened image ≡ Ok c → (t : Bool) → ltb q (partitions c) ≡ t
             → cond t (write_to c (laid image) session q x values) (unchanged (laid image) session NoPartition)
             ≡ laid_after (cond t (write_to c image session q x values) (unchanged image session NoPartition))
         by c o false e = refl
@@ -222,16 +221,16 @@ module _ (p : ℕ) (bytes : List ℕ) (h : p + length bytes ≤ 0x100) where
     goes_back =
         let valid : opened (stored_header (laid image) session.header) ≡ opened (stored_header image session.header) =
         ap opened (back_laid session.header) ∙ front_opened _ _ (front (stored_header image session.header)) in
-        λ i. same_bytes (front_header image (laid image) (front image) i) session.later && is_valid (valid i)
+        λ i. same_bytes (front_header image (laid image) (front image) i) session.later && is_ok (valid i)
 
     pub enters_back : entered_back (laid image) session ≡ entered_back image session
     unfolding entered_back
     enters_back =
-        ap (λ (o : Opened). while_revertible (laid image) session (while_idle session o)) (front_opened image (laid image) (front image)) ∙ by (while_idle session (opened image))
+        ap (λ (o : Result Container Refusal). while_revertible (laid image) session (while_idle session o)) (front_opened image (laid image) (front image)) ∙ by (while_idle session (opened image))
       where
-        by : (o : Opened) → while_revertible (laid image) session o ≡ while_revertible image session o
-        by (opening.Refused r) = refl
-        by (opening.Valid c) = λ i. cond (goes_back i) (opening.Valid c) (opening.Refused NothingToRevert)
+        by : (o : Result Container Refusal) → while_revertible (laid image) session o ≡ while_revertible image session o
+        by (Err r) = refl
+        by (Ok c) = λ i. cond (goes_back i) (Ok c) (Err NothingToRevert)
 
     reverts_on : (next next' : Container → After) → ((c : Container) → next' c ≡ laid_after (next c))
         → goes_on (laid image) session next' (entered_back (laid image) session) ≡ laid_after (goes_on image session next (entered_back image session))
@@ -294,10 +293,10 @@ Alike a b = (b.outcome ≡ a.outcome) × (ending_of a.outcome ≡ Accepted → l
 alike_same : (a b : After) → b ≡ a → Alike a b
 alike_same a b e = (λ i. (e i).outcome, λ n. ap left e)
 
-alike_on : (image other : List ℕ) (session : Session) (next next' : Container → After) (o : Opened) → ((c : Container) → o ≡ opening.Valid c → Alike (next c) (next' c))
+alike_on : (image other : List ℕ) (session : Session) (next next' : Container → After) (o : Result Container Refusal) → ((c : Container) → o ≡ Ok c → Alike (next c) (next' c))
     → Alike (goes_on image session next o) (goes_on other session next' o)
-alike_on image other session next next' (opening.Refused r) n = (refl, λ a. not_both a refl)
-alike_on image other session next next' (opening.Valid c) n = n c refl
+alike_on image other session next next' (Err r) n = (refl, λ a. not_both a refl)
+alike_on image other session next next' (Ok c) n = n c refl
 
 module _ (code : List ℕ) (n : length code ≤ 16) (image : List ℕ) (session : Session) (key : List ℕ) (signer : Signer) where
   abbrev other : List ℕ
@@ -347,9 +346,9 @@ module _ (code : List ℕ) (n : length code ≤ 16) (image : List ℕ) (session 
 uncommitted : (c : Call) → ((form : Form) → c ≡ Commit form → ⊥) → (st : State) (i : ℕ) → i < 0x200 → get_or (next c st).image i 0 ≡ get_or st.image i 0
 uncommitted c n st i h = by (opened st.image) refl
   where
-    by : (o : Opened) → opened st.image ≡ o → get_or (next c st).image i 0 ≡ get_or st.image i 0
-    by (opening.Refused r) e = ap (λ (s : List ℕ). get_or s i 0) (unopened c st (λ d o. let z : ◌≡◌ {A = ℕ} 0 1 = cc in omega arith))
-    by (opening.Valid d) e =
+    by : (o : Result Container Refusal) → opened st.image ≡ o → get_or (next c st).image i 0 ≡ get_or st.image i 0
+    by (Err r) e = ap (λ (s : List ℕ). get_or s i 0) (unopened c st (λ d o. let z : ◌≡◌ {A = ℕ} 0 1 = cc in omega arith))
+    by (Ok d) e =
         front_stays st.image (next c st).image d (guarantees st.image d e) (InPlaceBy d (Did c (ruled c st))) (by_outer d (Did c (ruled c st)))
         (spares call_laws c st d n e) i h
 

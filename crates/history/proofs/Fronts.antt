@@ -1,5 +1,7 @@
 -- An image that differs from another in the 0x100 bytes at the front alone: it opens alike, every view of it shows the same, and whatever only reads
 -- answers alike. Assumes nothing.
+use Rattle.std.specs.Prelude.{Result, Ok, Err}
+use Rattle.layout.specs.declared.Refusal.{Refusal}
 use mathlib.Core.Path.{◌≡◌, refl, ap, ◌∙◌, fun_ext}
 use mathlib.Core.Bool.{Bool, true, false, ◌&&◌, ◌||◌, cond}
 use mathlib.Core.List.{List}
@@ -8,6 +10,7 @@ use native.Mathlib.Omega.{arith}
 use lib.ListN.{length, get_or}
 use lib.Dec.{ltb, eqb}
 use borrow.Author.Tests.{ltb-true}
+use Rattle.std.specs.Prelude.{Err}
 use Rattle.number.specs.declared.Range.{Range}
 use Rattle.number.specs.declared.Level.{Level}
 use Rattle.number.specs.Ranges.{part}
@@ -15,8 +18,6 @@ use Rattle.number.specs.Bytes.{same_bytes}
 use Rattle.number.specs.Frame.{Keeps}
 use Rattle.number.proofs.FrameLaws.{keeps_refl, keeps_sets}
 use Rattle.layout.specs.declared.Container.{Container}
-use Rattle.layout.specs.declared.Opened.{Opened}
-use Rattle.layout.specs.declared.Opened.TheVariants as opening
 use Rattle.layout.specs.declared.Refusal.TheVariants.{NoPartition, SessionState, Stale, NoSave}
 use Rattle.layout.specs.Headers.{header_range, header_bytes}
 use Rattle.layout.specs.Tables.{active, inactive}
@@ -38,8 +39,6 @@ use Rattle.views.specs.Places.{partitions, slot_of, partition_of, tree_in, maste
 use Rattle.views.specs.Versions.{Version, version_of}
 use Rattle.views.proofs.PlaceLaws.{first_there, active_table, inactive_table}
 use Rattle.steps.specs.declared.Session.{Session}
-use Rattle.steps.specs.declared.Verdict.TheVariants as verdict
-use Rattle.steps.specs.declared.Count.TheVariants as count
 use Rattle.steps.specs.Reading.{read_from, read_outcome, verdict_on, count_in}
 use Rattle.steps.specs.Sessions.{selector_flipped, for_each, staged_table, in_some_master, all_below, table_staged, current}
 use Rattle.steps.specs.Calls.{while_begun, entered, unread, read_in, read_committed, read_staged, verified_in, is_verified, count_verified_in, count_verified}
@@ -47,7 +46,6 @@ use Rattle.steps.proofs.EnterLaws.{entered_is}
 use Rattle.faults.specs.declared.Fault.{Fault}
 use Rattle.faults.specs.Faults.{faults_of, faults_in, faults, count_faults_in, count_faults}
 use Rattle.faults.proofs.LevelLaws.{faults_cong}
-use Rattle.save.specs.declared.Sought.TheVariants as sought
 use Rattle.save.specs.Calls.{holds_save, unlisted, names_of, listed_in, list_names, file_of, sought_in, find_file}
 use Rattle.history.specs.Model.{Form, Plain, Signed}
 use Rattle.history.specs.Term.{stamped, SameAnswers}
@@ -178,9 +176,9 @@ module _ (image left : List ℕ) (k : Fronted image left) where
   unfolding entered
   front_entered session = ap (while_begun left session) front_opened ∙ by (opened image) refl
     where
-      by : (o : Opened) → opened image ≡ o → while_begun left session o ≡ while_begun image session o
-      by (opening.Refused r) e = refl
-      by (opening.Valid c) e = λ i. cond session.begun (cond (front_current c (guarantees image c e) session i) (opening.Valid c) (opening.Refused Stale)) (opening.Refused SessionState)
+      by : (o : Result Container Refusal) → opened image ≡ o → while_begun left session o ≡ while_begun image session o
+      by (Err r) e = refl
+      by (Ok c) e = λ i. cond session.begun (cond (front_current c (guarantees image c e) session i) (Ok c) (Err Stale)) (Err SessionState)
 
   -- ---- so whatever only reads answers alike
 
@@ -193,24 +191,24 @@ module _ (image left : List ℕ) (k : Fronted image left) where
       by false h = refl
 
   module _ (q : ℕ) where
-    read : (view : Container → ℕ → View) → ((c : Container) → Guarantees image c → q < partitions c → Past (view c q)) → (x : ℕ) (buffer : List ℕ) (o : Opened)
-        → ((c : Container) → o ≡ opening.Valid c → opened image ≡ opening.Valid c) → read_in view left q x buffer o ≡ read_in view image q x buffer o
-    read view past x buffer (opening.Refused r) e = refl
-    read view past x buffer (opening.Valid c) e =
+    read : (view : Container → ℕ → View) → ((c : Container) → Guarantees image c → q < partitions c → Past (view c q)) → (x : ℕ) (buffer : List ℕ) (o : Result Container Refusal)
+        → ((c : Container) → o ≡ Ok c → opened image ≡ Ok c) → read_in view left q x buffer o ≡ read_in view image q x buffer o
+    read view past x buffer (Err r) e = refl
+    read view past x buffer (Ok c) e =
         if_there (partitions c) q _ _ (unread buffer NoPartition) (λ h. front_read (view c q) (past c (guarantees image c (e c refl)) h) x buffer)
 
-    questions : (b : ℕ) (o : Opened) → opened image ≡ o → verified_in left q b o ≡ verified_in image q b o
+    questions : (b : ℕ) (o : Result Container Refusal) → opened image ≡ o → verified_in left q b o ≡ verified_in image q b o
     unfolding verdict_on
-    questions b (opening.Refused r) e = refl
-    questions b (opening.Valid c) e =
-        if_there (partitions c) q _ _ (verdict.Refused NoPartition)
+    questions b (Err r) e = refl
+    questions b (Ok c) e =
+        if_there (partitions c) q _ _ (Err NoPartition)
         (λ h. rw (front_seen (committed_view c q) (committed_past image c (guarantees image c e) q h)))
 
-    counts : (o : Opened) → opened image ≡ o → count_verified_in left q o ≡ count_verified_in image q o
+    counts : (o : Result Container Refusal) → opened image ≡ o → count_verified_in left q o ≡ count_verified_in image q o
     unfolding count_in
-    counts (opening.Refused r) e = refl
-    counts (opening.Valid c) e =
-        if_there (partitions c) q _ _ (count.Refused NoPartition)
+    counts (Err r) e = refl
+    counts (Ok c) e =
+        if_there (partitions c) q _ _ (Err NoPartition)
         (λ h. rw (front_seen (committed_view c q) (committed_past image c (guarantees image c e) q h)))
 
   pub front_staged : (session : Session) (q x : ℕ) (buffer : List ℕ) → read_staged left session q x buffer ≡ read_staged image session q x buffer
@@ -219,33 +217,33 @@ module _ (image left : List ℕ) (k : Fronted image left) where
       ap (read_in staged_view left q x buffer) (front_entered session)
       ∙ read q staged_view (λ c g h. staged_past image c g q h) x buffer (entered image session) (λ c e. (entered_is image session c e).0)
 
-  same_faults : (c : Container) → opened image ≡ opening.Valid c → faults_of c left ≡ faults_of c image
+  same_faults : (c : Container) → opened image ≡ Ok c → faults_of c left ≡ faults_of c image
   same_faults c o =
       faults_cong c left image
       (λ q i b h m l. ap (λ (f : ℕ → ℕ → ℕ). tree.verified (level_of (committed_view c q)) f i b)
       (front_seen (committed_view c q) (committed_past image c (guarantees image c o) q h)))
 
-  fault_count_lem : (o : Opened) → opened image ≡ o → count_faults_in left o ≡ count_faults_in image o
-  fault_count_lem (opening.Refused r) e = refl
-  fault_count_lem (opening.Valid c) e = ap (λ (l : List Fault). count.Blocks (length l)) (same_faults c e)
+  fault_count_lem : (o : Result Container Refusal) → opened image ≡ o → count_faults_in left o ≡ count_faults_in image o
+  fault_count_lem (Err r) e = refl
+  fault_count_lem (Ok c) e = ap (λ (l : List Fault). Ok (length l)) (same_faults c e)
 
-  fault_list_lem : (o : Opened) → opened image ≡ o → faults_in left o ≡ faults_in image o
-  fault_list_lem (opening.Refused r) e = refl
-  fault_list_lem (opening.Valid c) e = same_faults c e
+  fault_list_lem : (o : Result Container Refusal) → opened image ≡ o → faults_in left o ≡ faults_in image o
+  fault_list_lem (Err r) e = refl
+  fault_list_lem (Ok c) e = same_faults c e
 
   -- a save stands in partition A
-  first : (c : Container) → opened image ≡ opening.Valid c → version_of (committed_view c 0) left ≡ version_of (committed_view c 0) image
+  first : (c : Container) → opened image ≡ Ok c → version_of (committed_view c 0) left ≡ version_of (committed_view c 0) image
   first c o =
       let g = guarantees image c o in
       front_version (committed_view c 0) (committed_past image c g 0 (first_there (length image) c.header g.header))
 
-  names : (row : List ℕ) (o : Opened) → opened image ≡ o → listed_in left row o ≡ listed_in image row o
-  names row (opening.Refused r) e = refl
-  names row (opening.Valid c) e = ap (λ (v : Version). cond (holds_save c) (names_of v row) (unlisted row NoSave)) (first c e)
+  names : (row : List ℕ) (o : Result Container Refusal) → opened image ≡ o → listed_in left row o ≡ listed_in image row o
+  names row (Err r) e = refl
+  names row (Ok c) e = ap (λ (v : Version). cond (holds_save c) (names_of v row) (unlisted row NoSave)) (first c e)
 
-  finds : (folder : ℕ) (name : List ℕ) (o : Opened) → opened image ≡ o → sought_in left folder name o ≡ sought_in image folder name o
-  finds folder name (opening.Refused r) e = refl
-  finds folder name (opening.Valid c) e = ap (λ (v : Version). cond (holds_save c) (file_of v folder name) (sought.Refused NoSave)) (first c e)
+  finds : (folder : ℕ) (name : List ℕ) (o : Result Container Refusal) → opened image ≡ o → sought_in left folder name o ≡ sought_in image folder name o
+  finds folder name (Err r) e = refl
+  finds folder name (Ok c) e = ap (λ (v : Version). cond (holds_save c) (file_of v folder name) (Err NoSave)) (first c e)
 
   pub front_answers : SameAnswers image left
   unfolding read_committed is_verified count_verified count_faults faults list_names find_file

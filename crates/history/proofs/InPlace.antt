@@ -1,4 +1,5 @@
 -- Power failure where level 4 may be external, from the frame: what an image that is left answers. Assumes nothing.
+use Rattle.std.specs.Prelude.{Ok, Err}
 use mathlib.Core.Path.{◌≡◌, refl, sym, ap, ◌∙◌, subst}
 use mathlib.Core.Bool.{Bool, true, false, cond}
 use mathlib.Core.List.{List, [], ◌∷◌}
@@ -15,7 +16,6 @@ use Rattle.number.specs.Blocks.{blocks, block_of, touches}
 use Rattle.number.proofs.ListLaws.{length_bytes, get_d_bytes}
 use Rattle.number.proofs.BlockLaws.{touches_byte}
 use Rattle.layout.specs.declared.Container.{Container}
-use Rattle.layout.specs.declared.Opened.TheVariants as opening
 use Rattle.layout.specs.declared.Refusal.TheVariants.{NoPartition}
 use Rattle.layout.specs.Opening.{opened}
 use Rattle.layout.specs.Guarantees.{Guarantees}
@@ -27,8 +27,6 @@ use Rattle.dpfs.specs.Free.{InRange}
 use Rattle.ivfc.specs.Views.{level_of, content_of, verified}
 use Rattle.views.specs.Places.{partitions, slot_of, partition_of, view_in, committed_view}
 use Rattle.views.specs.Protected.{ExternalByte}
-use Rattle.steps.specs.declared.Verdict.TheVariants as verdict
-use Rattle.steps.specs.declared.Count.TheVariants as count
 use Rattle.steps.specs.Reading.{read_from, verdict_on, count_in}
 use Rattle.steps.specs.Calls.{unread, read_in, read_committed, verified_in, is_verified, count_verified_in, count_verified}
 use Rattle.history.specs.Model.{read_of, judged_of, count_true, Form, Plain, Signed, Event}
@@ -91,14 +89,14 @@ module _ (image : List ℕ) (c : Container) (g : Guarantees image c) (q : ℕ) (
 
 -- ---- what is left
 
-module _ (image left : List ℕ) (c : Container) (list : List Event) (o : opened image ≡ opening.Valid c) (k : LeftBut (InPlaceOf c list) c image left) where
+module _ (image left : List ℕ) (c : Container) (list : List Event) (o : opened image ≡ Ok c) (k : LeftBut (InPlaceOf c list) c image left) where
   g : Guarantees image c
   g = guarantees image c o
 
   abbrev W : ℕ → Type 0
   W = InPlaceOf c list
 
-  o' : opened left ≡ opening.Valid c
+  o' : opened left ≡ Ok c
   o' = still_opens image left c g W (in_place_outer c list) k o
 
   module _ (q : ℕ) (h : q < partitions c) where
@@ -191,7 +189,7 @@ module _ (image left : List ℕ) (c : Container) (list : List Event) (o : opened
     questions = λ q b u. ap (verified_in left q b) o' ∙ questions q b u (ltb q (partitions c)) refl ∙ sym (ap (verified_in image q b) o);
     counts = λ q u. ap (count_verified_in left q) o' ∙ counts q u (ltb q (partitions c)) refl ∙ sym (ap (count_verified_in image q) o);
     faulty = same_fault;
-    fault_count = λ u. ap (count_faults_in left) o' ∙ ap (λ (l : List Fault). count.Blocks (length l)) (same_faults u) ∙ sym (ap (count_faults_in image) o);
+    fault_count = λ u. ap (count_faults_in left) o' ∙ ap (λ (l : List Fault). Ok (length l)) (same_faults u) ∙ sym (ap (count_faults_in image) o);
     fault_list = λ u. ap (faults_in left) o' ∙ same_faults u ∙ sym (ap (faults_in image) o);
     signing = same_signed image left k.size header;
     names = names_same image c o left o' same_save;
@@ -218,19 +216,19 @@ module _ (image left : List ℕ) (c : Container) (list : List Event) (o : opened
           read_version (committed_view c q) left place buffer ∙ read_within q h place buffer u ∙ sym (read_version (committed_view c q) image place buffer)
 
       questions : (q b : ℕ) → Untouched c list q b → (t : Bool) → ltb q (partitions c) ≡ t
-          → cond t (verdict_on (committed_view c q) left b) (verdict.Refused NoPartition)
-          ≡ cond t (verdict_on (committed_view c q) image b) (verdict.Refused NoPartition)
+          → cond t (verdict_on (committed_view c q) left b) (Err NoPartition)
+          ≡ cond t (verdict_on (committed_view c q) image b) (Err NoPartition)
       questions q b u false e = refl
       questions q b u true e =
           let h = ltb-true q (partitions c) e in
           judged_version (committed_view c q) left b ∙ judged_within q h b u ∙ sym (judged_version (committed_view c q) image b)
 
       counts : (q : ℕ) → ((b : ℕ) → Untouched c list q b) → (t : Bool) → ltb q (partitions c) ≡ t
-          → cond t (count_in (committed_view c q) left) (count.Refused NoPartition) ≡ cond t (count_in (committed_view c q) image) (count.Refused NoPartition)
+          → cond t (count_in (committed_view c q) left) (Err NoPartition) ≡ cond t (count_in (committed_view c q) image) (Err NoPartition)
       counts q u false e = refl
       counts q u true e =
           let h = ltb-true q (partitions c) e in
-          count_version (committed_view c q) left ∙ ap count.Blocks (count_within q h u) ∙ sym (count_version (committed_view c q) image)
+          count_version (committed_view c q) left ∙ ap Ok (count_within q h u) ∙ sym (count_version (committed_view c q) image)
 
   pub entries : (q : ℕ) → q < partitions c → (i y : ℕ) → i ≤ 3 → y < (level_of (committed_view c q) i).size
       → content_of (committed_view c q) left i y ≡ content_of (committed_view c q) image i y

@@ -1,4 +1,5 @@
 -- Landing, from the laws of the calls: what the committed view is once a commit is accepted. Assumes nothing else.
+use Rattle.std.specs.Prelude.{Ok}
 use mathlib.Core.Path.{◌≡◌, refl, sym, ap, ◌∙◌, subst}
 use mathlib.Core.Bool.{Bool, true, false, not, ◌&&◌, cond}
 use mathlib.Core.Logic.{◌⊎◌, inl, inr}
@@ -19,7 +20,6 @@ use Rattle.number.proofs.BlockLaws.{block_exists, touches_byte}
 use Rattle.layout.specs.declared.Container.{Container}
 use Rattle.ivfc.specs.declared.View.{View}
 use Rattle.views.specs.Places.{view_in, committed_view, staged_view}
-use Rattle.layout.specs.declared.Outcome.TheVariants as outcome
 use Rattle.steps.specs.Calls.{read_committed}
 use Rattle.history.specs.Model.{laid_over, lowest, read_of, Form, Call, Ask, Begin, Write, Commit, Abandon, Ruling, Accepted, Refused, Dropped, Event, Did, Model, advance, followed}
 use Rattle.views.specs.Versions.{Version, version_of}
@@ -189,7 +189,7 @@ lowest_verified touched b (v ∷ vs) h =
     by false e r = r
 
 read_byte : (v : Version) (i any : ℕ) → i < length v.bytes → get_or v.verified (block_of v.level i) false ≡ true
-    → read_of v i (any ∷ []) ≡ record { outcome = outcome.Accepted; buffer = get_or v.bytes i 0 ∷ [] }
+    → read_of v i (any ∷ []) ≡ record { outcome = Ok tt; buffer = get_or v.bytes i 0 ∷ [] }
 unfolding read_of
 read_byte v i any h e =
     let n : lowest (touches v.level i 1) 0 v.verified ≡ none = lowest_verified (touches v.level i 1) 0 v.verified one in
@@ -236,7 +236,7 @@ module _ (p : ℕ) (es : List Event) (first last : List ℕ) (old : There first 
       ∙ laid_written p es (committed_of old) (level_of_there old) i x (version_level (committed_view old.container p) first)
       (rw (version_count (committed_view old.container p) first) there) e
 
-  reads_of : (i x any : ℕ) → last_value p i es ≡ some x → read_committed last p i (any ∷ []) ≡ record { outcome = outcome.Accepted; buffer = x ∷ [] }
+  reads_of : (i x any : ℕ) → last_value p i es ≡ some x → read_committed last p i (any ∷ []) ≡ record { outcome = Ok tt; buffer = x ∷ [] }
   unfolding committed_view view_in
   reads_of i x any e =
       let view = committed_view new.container p in
@@ -246,7 +246,7 @@ module _ (p : ℕ) (es : List Event) (first last : List ℕ) (old : There first 
       ∙ read_byte (committed_of new) i any (rw (version_size view last) inside)
       (ap (λ (l : Level). get_or (committed_of new).verified (block_of l i) false) (version_level view last)
       ∙ version_flag view last (block_of (level_of_there new) i) there ∙ ap (λ (l : Level). verified_in new (block_of l i)) same_level ∙ verifies_of i x e)
-      ∙ ap (λ (y : ℕ). record { outcome = outcome.Accepted; buffer = y ∷ [] }) (version_byte view last i inside ∙ written_of i x e)
+      ∙ ap (λ (y : ℕ). record { outcome = Ok tt; buffer = y ∷ [] }) (version_byte view last i inside ∙ written_of i x e)
 
   pub landed_of : Landed p es first last old
   unfolding committed_view view_in

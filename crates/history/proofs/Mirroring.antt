@@ -1,5 +1,6 @@
 -- How a partition of either kind mirrors the model from call to call, but in the blocks that were written to in place, from the laws of the calls.
 -- Assumes nothing else.
+use Rattle.std.specs.Prelude.{Ok}
 use mathlib.Core.Path.{◌≡◌, refl, sym, ap, ◌∙◌, subst}
 use mathlib.Core.Bool.{Bool, true, false, ◌&&◌, ◌||◌, cond, true≢false}
 use mathlib.Core.List.{List, [], ◌∷◌}
@@ -13,7 +14,6 @@ use Rattle.number.specs.declared.Level.{Level}
 use Rattle.number.specs.Blocks.{blocks, touches}
 use Rattle.number.proofs.FrameLaws.{keeps_more}
 use Rattle.layout.specs.declared.Container.{Container}
-use Rattle.layout.specs.declared.Opened.TheVariants as opening
 use Rattle.layout.specs.Headers.{header_bytes}
 use Rattle.layout.specs.Opening.{opened}
 use Rattle.layout.specs.Guarantees.{Guarantees}
@@ -100,7 +100,7 @@ module _ (W : CallLaws) (external : Bool) (level : Level) where
     abbrev c : Container
     c = g.has.container
 
-    abbrev o : opened st.image ≡ opening.Valid c
+    abbrev o : opened st.image ≡ Ok c
     o = g.has.opens
 
     by_begin : ruled Begin st ≡ Accepted

@@ -1,6 +1,7 @@
 -- An image that differs from another in free bytes and in some bytes of external level 4s only: it opens alike, with the same header and free bytes, the
 -- same committed views of partitions without such a byte, and the same committed hash levels of every one; its blocks without such a byte are as they
 -- were. Assumes nothing.
+use Rattle.std.specs.Prelude.{Ok}
 use mathlib.Core.Path.{◌≡◌, refl, sym, ap, ◌∙◌, subst}
 use mathlib.Core.Bool.{Bool, true, false, cond, true≢false}
 use mathlib.Core.List.{List}
@@ -8,7 +9,6 @@ use mathlib.Core.Logic.{◌⊎◌, inl, inr, ⊎_elim, ◌↔◌}
 use Prim.Native.Nat.{ℕ, zero, suc, ◌+◌, ◌*◌, ◌≤◌, ◌<◌}
 use native.Mathlib.Omega.{arith}
 use lib.ListN.{length, get_or}
-use borrow.Author.Tests.{eqb-true}
 use Rattle.number.specs.declared.Range.{Range}
 use Rattle.number.specs.declared.Level.{Level}
 use Rattle.number.specs.Ranges.{Apart, level_range, twice}
@@ -16,7 +16,6 @@ use Rattle.number.specs.Blocks.{blocks, block_of, block_size, block_length}
 use Rattle.number.proofs.FrameLaws.{keeps_more}
 use Rattle.number.proofs.BlockLaws.{block_inside, exists_byte, block_byte}
 use Rattle.layout.specs.declared.Container.{Container}
-use Rattle.layout.specs.declared.Opened.TheVariants as opening
 use Rattle.layout.specs.Headers.{front, header_range, header_bytes}
 use Rattle.layout.specs.Tables.{active}
 use Rattle.layout.specs.Descriptors.{external_range}
@@ -24,6 +23,7 @@ use Rattle.layout.specs.Opening.{opened}
 use Rattle.layout.specs.Guarantees.{Guarantees, ExternalGuarantees}
 use Rattle.layout.proofs.GuaranteeLaws.{guarantees}
 use Rattle.layout.proofs.FrameLaws.{agree_part}
+use Rattle.dpfs.specs.declared.Tree.{Tree}
 use Rattle.dpfs.specs.Tree.{place, content}
 use Rattle.dpfs.specs.Free.{InRange, Free}
 use Rattle.dpfs.proofs.SpareLaws.{Spares, spares_or, Avoids, avoids_spares, spared_content}
@@ -37,7 +37,7 @@ use Rattle.ivfc.proofs.EntryLaws.{block_cong, entry_cong}
 use Rattle.ivfc.proofs.VerifiedLaws.{entry_inside, parent_inside, verified_cong}
 use Rattle.views.specs.Places.{partitions, slot_of, partition_of, tree_in, tree_of, view_in, committed_view, space_of}
 use Rattle.views.specs.Protected.{ExternalByte, Protected}
-use Rattle.views.proofs.PlaceLaws.{present, first_there, active_partition, tree_inside, tree_rules, committed_rules, committed_master, space_rules, tree_among}
+use Rattle.views.proofs.PlaceLaws.{present, first_there, active_partition, tree_inside, tree_rules, committed_rules, committed_master, space_rules, tree_among, of_second}
 use Rattle.views.proofs.ProtectedLaws.{protected_not_free, protected_is_not_free, never_both, same_or_apart, external_inside}
 use Rattle.views.proofs.OpenLaws.{storable_opens}
 use Rattle.views.specs.Versions.{version_of}
@@ -133,7 +133,7 @@ module _ (image left : List ℕ) (c : Container) (g : Guarantees image c) (W : �
   unfolding staged_table
   staged_stays = ap (for_each c (selector_flipped c)) (agree_part left image (active c.header) k.size (λ i a b. active_stays i (a, b)))
 
-  pub still_opens : (o : opened image ≡ opening.Valid c) → opened left ≡ opening.Valid c
+  pub still_opens : (o : opened image ≡ Ok c) → opened left ≡ Ok c
   still_opens o = storable_opens image left c o (keeps_more (λ i. ⊎_elim inl (λ w. inr (outer i w))) k)
 
   w_avoids : (r : ℕ) → r < partitions c → Avoids W (tree_of c r)
@@ -157,10 +157,10 @@ module _ (image left : List ℕ) (c : Container) (g : Guarantees image c) (W : �
   unfolding space_of
   free_stays =
       spared_space (space_of c) (length image) (space_rules image c g) F image left k (spares 0 (first_there (length image) c.header g.header))
-      (λ e. spares 1 (omega (arith, eqb-true (partitions c) 2 e)))
+      (of_second c (λ (t : Tree). Spares F t image) (λ two. spares 1 (omega (arith, two))))
 
   -- so 01's list is the same
-  pub list_stays : (o : opened image ≡ opening.Valid c) → (i : ℕ) → Protected c left i ↔ Protected c image i
+  pub list_stays : (o : opened image ≡ Ok c) → (i : ℕ) → Protected c left i ↔ Protected c image i
   list_stays o i =
       let l = protected_is_not_free left c (guarantees left c (still_opens o)) i in
       let p = protected_is_not_free image c g i in

@@ -1,4 +1,6 @@
 -- After any list a begin, a commit and an abandon are refused with 13 or not at all, from the laws of the calls. Assumes nothing else.
+use Rattle.std.specs.Prelude.{Result, Ok}
+use Rattle.layout.specs.declared.Refusal.{Refusal}
 use mathlib.Core.Path.{◌≡◌, refl, sym, ap, ◌∙◌}
 use mathlib.Core.Bool.{Bool, true, false, true≢false}
 use mathlib.Core.List.{List}
@@ -7,8 +9,6 @@ use Prim.Native.Nat.{ℕ}
 use lib.ListN.{length}
 use Rattle.number.specs.declared.Level.{Level}
 use Rattle.layout.specs.declared.Container.{Container}
-use Rattle.layout.specs.declared.Opened.{Opened}
-use Rattle.layout.specs.declared.Opened.TheVariants as opening
 use Rattle.layout.specs.Opening.{opened}
 use Rattle.layout.proofs.GuaranteeLaws.{guarantees}
 use Rattle.views.proofs.PlaceLaws.{first_there}
@@ -27,23 +27,23 @@ use Rattle.history.specs.Theorem.{ended_by, Progress, ProgressTheorem}
 use Rattle.history.proofs.CallLaws.{CallLaws}
 use Rattle.history.proofs.Mirroring.{TracksBut, MirrorsBut, mirrors_on, first_mirrors}
 
-begin_accepted : (st : State) (c : Container) → opened st.image ≡ opening.Valid c → st.session.begun ≡ false → ruled Begin st ≡ Accepted
+begin_accepted : (st : State) (c : Container) → opened st.image ≡ Ok c → st.session.begun ≡ false → ruled Begin st ≡ Accepted
 unfolding perform begin
 begin_accepted st c o i =
-    ap (λ (x : Opened). ending_of (goes_on st.image st.session (begin_on st.image) x).outcome) (ap (while_idle st.session) o ∙ no_of st.session.begun _ _ i)
+    ap (λ (x : Result Container Refusal). ending_of (goes_on st.image st.session (begin_on st.image) x).outcome) (ap (while_idle st.session) o ∙ no_of st.session.begun _ _ i)
 
 -- a session that may go on goes on
-goes : (st : State) (c : Container) (next : Container → After) → opened st.image ≡ opening.Valid c → st.session.begun ≡ true → current c st.image st.session ≡ true
+goes : (st : State) (c : Container) (next : Container → After) → opened st.image ≡ Ok c → st.session.begun ≡ true → current c st.image st.session ≡ true
     → goes_on st.image st.session next (entered st.image st.session) ≡ next c
 goes st c next o b k = ap (goes_on st.image st.session next) (sym (enters st.image st.session (opened st.image) refl c o b k))
 
-commit_accepted : (st : State) (c : Container) → opened st.image ≡ opening.Valid c → st.session.begun ≡ true
+commit_accepted : (st : State) (c : Container) → opened st.image ≡ Ok c → st.session.begun ≡ true
     → current c st.image st.session ≡ true → ruled (Commit Plain) st ≡ Accepted
 unfolding perform commit
 commit_accepted st c o b k = ap (λ (a : After). ending_of a.outcome) (goes st c (commit_on st.image) o b k)
 
 -- once 13 and 14 are passed, 15 alone stops a signed commit
-signed_answer : (st : State) (c : Container) (key : List ℕ) (signer : Signer) → opened st.image ≡ opening.Valid c → st.session.begun ≡ true
+signed_answer : (st : State) (c : Container) (key : List ℕ) (signer : Signer) → opened st.image ≡ Ok c → st.session.begun ≡ true
     → current c st.image st.session ≡ true → (perform (Commit (Signed key signer)) st).answer ≡ Stepping (ended_by (outcome_of (signed st.image signer)))
 unfolding perform commit_signed
 signed_answer st c key signer o b k =

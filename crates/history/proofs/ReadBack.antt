@@ -1,4 +1,5 @@
 -- The same rules read a write back: from the laws of update, through the checks that a write passes. Assumes nothing.
+use Rattle.std.specs.Prelude.{Ok}
 use mathlib.Core.Path.{◌≡◌, refl, sym, ap, ◌∙◌, subst}
 use Prim.Native.Nat.{ℕ, ◌<◌}
 use mathlib.Core.Bool.{Bool, true, false, ◌&&◌, true≢false}
@@ -12,7 +13,6 @@ use Rattle.number.specs.Blocks.{blocks, touches}
 use Rattle.number.specs.Bytes.{overlay}
 use Rattle.number.proofs.FrameLaws.{keeps_more}
 use Rattle.layout.specs.declared.Container.{Container}
-use Rattle.layout.specs.declared.Opened.TheVariants as opening
 use Rattle.layout.specs.declared.Refusal.TheVariants.{NoPartition}
 use Rattle.layout.specs.Opening.{opened}
 use Rattle.layout.proofs.GuaranteeLaws.{guarantees}
@@ -46,7 +46,7 @@ use Rattle.history.proofs.Mirroring.{event, in_list, untouched}
 use Rattle.history.proofs.Alike.{view_level, committed_sized, same_of_alike}
 
 -- what was not written in place stays of a committed view
-module _ (image after : List ℕ) (c : Container) (o : opened image ≡ opening.Valid c) (q place : ℕ) (bytes : List ℕ) (there : q < partitions c)
+module _ (image after : List ℕ) (c : Container) (o : opened image ≡ Ok c) (q place : ℕ) (bytes : List ℕ) (there : q < partitions c)
     (k : LeftBut (InPlace c q place (length bytes)) c image after) where
   kept : LeftBut (InPlaceOf c (event c q place bytes ∷ [])) c image after
   kept = keeps_more (λ i. elim [ inl f ↦ inl f | inr x ↦ inr (in_list c q place bytes i x) ]) k
@@ -94,7 +94,7 @@ committed_laid : (c : Container) (q place : ℕ) (bytes image after : List ℕ) 
 unfolding committed_view staged_view view_in
 committed_laid c q place bytes image after e laid y h = rw (one_place c q e after, one_place c q e image) (laid y h)
 
-module _ (image : List ℕ) (session : Session) (c : Container) (o : opened image ≡ opening.Valid c) (q place : ℕ) (bytes : List ℕ) (f : Finished image session c o q place bytes) where
+module _ (image : List ℕ) (session : Session) (c : Container) (o : opened image ≡ Ok c) (q place : ℕ) (bytes : List ℕ) (f : Finished image session c o q place bytes) where
   abbrev after : List ℕ
   after = written_to (staged_view c q) place bytes image
 
@@ -139,10 +139,10 @@ module _ (image : List ℕ) (session : Session) (c : Container) (o : opened imag
 -- ---- once it is committed
 
 none_there : (view : Container → ℕ → View) (image : List ℕ) (q place : ℕ) (buffer : List ℕ) (c : Container) → ltb q (partitions c) ≡ false
-    → read_in view image q place buffer (opening.Valid c) ≡ unread buffer NoPartition
+    → read_in view image q place buffer (Ok c) ≡ unread buffer NoPartition
 none_there view image q place buffer c e = rw e
 
-module _ (image after : List ℕ) (session : Session) (c : Container) (o : opened image ≡ opening.Valid c) (b : session.begun ≡ true)
+module _ (image after : List ℕ) (session : Session) (c : Container) (o : opened image ≡ Ok c) (b : session.begun ≡ true)
     (k : current c image session ≡ true) (s : CommitLaws c image after) (q place : ℕ) (buffer : List ℕ) where
   commits_read : read_committed after q place buffer ≡ read_staged image session q place buffer
   unfolding read_committed read_staged

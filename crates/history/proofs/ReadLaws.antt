@@ -1,4 +1,6 @@
 -- The reads and questions of a partition that there is answer as its version says. Assumes nothing.
+use Rattle.std.specs.Prelude.{Result, Ok}
+use Rattle.layout.specs.declared.Refusal.{Refusal}
 use mathlib.Core.Path.{◌≡◌, refl, sym, ap, ◌∙◌}
 use mathlib.Core.Bool.{Bool, true, false, not, cond}
 use mathlib.Core.List.{List, ◌∷◌}
@@ -6,13 +8,10 @@ use Prim.Native.Nat.{ℕ, zero, suc, ◌<◌}
 use native.Mathlib.Omega.{arith}
 use borrow.Author.Tests.{lt-ltb}
 use Rattle.layout.specs.declared.Container.{Container}
-use Rattle.layout.specs.declared.Opened.{Opened}
-use Rattle.layout.specs.declared.Opened.TheVariants as opening
 use Rattle.layout.specs.declared.Refusal.TheVariants.{SessionState}
 use Rattle.layout.specs.Opening.{opened}
 use Rattle.views.specs.Places.{partitions, committed_view, staged_view}
 use Rattle.steps.specs.declared.Session.{Session}
-use Rattle.steps.specs.declared.Count.TheVariants as count
 use Rattle.steps.specs.Sessions.{current}
 use Rattle.steps.specs.Calls.{unread, read_in, read_committed, read_staged, verified_in, is_verified, count_verified_in, count_verified}
 use Rattle.steps.proofs.EnterLaws.{enters, enters_idle}
@@ -43,7 +42,7 @@ kept_flags P good q says b (suc n) = go (good b) refl (kept_flags P good q says 
         kept_yes P (at q 4 b) (blocks_from q 4 (suc b) n) (says b ∙ ap not v) ∙ ap (λ (l : List Fault). at q 4 b ∷ l) e
         ∙ ap (λ (t : Bool). cond t (unverified q (suc b) (flags good (suc b) n)) (at q 4 b ∷ unverified q (suc b) (flags good (suc b) n))) (sym v)
 
-module _ (image : List ℕ) (c : Container) (o : opened image ≡ opening.Valid c) (q : ℕ) (there : q < partitions c) where
+module _ (image : List ℕ) (c : Container) (o : opened image ≡ Ok c) (q : ℕ) (there : q < partitions c) where
   pub read_committed_lem : (place : ℕ) (buffer : List ℕ) → read_committed image q place buffer ≡ read_of (version_of (committed_view c q) image) place buffer
   unfolding read_committed
   read_committed_lem place buffer = ap (read_in committed_view image q place buffer) o ∙ rw (lt-ltb q (partitions c) there) (read_version (committed_view c q) image place buffer)
@@ -64,7 +63,7 @@ module _ (image : List ℕ) (c : Container) (o : opened image ≡ opening.Valid 
   unfolding is_verified
   judged b = ap (verified_in image q b) o ∙ rw (lt-ltb q (partitions c) there) (judged_version (committed_view c q) image b)
 
-  pub counted : count_verified image q ≡ count.Blocks (count_true (version_of (committed_view c q) image).verified)
+  pub counted : count_verified image q ≡ Ok (count_true (version_of (committed_view c q) image).verified)
   unfolding count_verified
   counted = ap (count_verified_in image q) o ∙ rw (lt-ltb q (partitions c) there) (count_version (committed_view c q) image)
 
@@ -72,5 +71,5 @@ module _ (image : List ℕ) (c : Container) (o : opened image ≡ opening.Valid 
   pub faulty_version : kept (of_level q 4) (faults image) ≡ unverified q 0 (version_of (committed_view c q) image).verified
   unfolding faults version_of level_of
   faulty_version =
-      ap (λ (a : Opened). kept (of_level q 4) (faults_in image a)) o ∙ level_faults c q 4 image there (omega arith) (omega arith)
+      ap (λ (a : Result Container Refusal). kept (of_level q 4) (faults_in image a)) o ∙ level_faults c q 4 image there (omega arith) (omega arith)
       ∙ kept_flags (is_fault c image) (verified (committed_view c q) image 4) q (λ b. refl) 0 (blocks (committed_view c q).level4)

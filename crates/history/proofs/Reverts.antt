@@ -1,4 +1,7 @@
 -- What a revert answers and leaves, plain and signed. Assumes nothing.
+use Rattle.std.specs.Result.{is_ok}
+use Rattle.std.specs.Prelude.{Result, Ok, Err}
+use Rattle.layout.specs.declared.Refusal.{Refusal}
 use mathlib.Core.Path.{◌≡◌, refl, sym, ap, ◌∙◌, subst}
 use mathlib.Core.Bool.{Bool, true, false}
 use mathlib.Core.List.{List}
@@ -13,10 +16,7 @@ use Rattle.number.proofs.FrameLaws.{keeps_refl, keeps_trans}
 use Rattle.number.proofs.Tests.{and_right, and_both, left_fails}
 use Rattle.number.proofs.ListLaws.{sets_out, sets_is, same_refl, same_is}
 use Rattle.layout.specs.declared.Container.{Container}
-use Rattle.layout.specs.declared.Opened.{Opened}
-use Rattle.layout.specs.declared.Opened.TheVariants as opening
 use Rattle.layout.specs.declared.Refusal.TheVariants.{Format, NothingToRevert}
-use Rattle.layout.specs.declared.JudgedHeader.TheVariants.{GoodHeader, BadHeader}
 use Rattle.layout.specs.Magic.{opens_with}
 use Rattle.layout.specs.Headers.{header_range, header_bytes, judged_header, kind_in}
 use Rattle.layout.specs.Opening.{opened}
@@ -29,10 +29,9 @@ use Rattle.signing.specs.Calls.{signed_header, signed}
 use Rattle.signing.proofs.AnswerLaws.{accepted_header}
 use Rattle.signatures.specs.Signatures.{signature, opened_signed}
 use Rattle.signatures.proofs.Laws.{length_signature, signed_by}
-use Rattle.layout.specs.declared.Outcome.TheVariants as outcome
 use Rattle.commits.specs.Committing.{stored_header, stored_signed, header_committed}
 use Rattle.steps.specs.declared.Session.{Session}
-use Rattle.steps.specs.Sessions.{nothing, idle, remembering, table_staged, is_valid, revertible}
+use Rattle.steps.specs.Sessions.{nothing, idle, remembering, table_staged, revertible}
 use Rattle.steps.specs.Calls.{while_idle, while_revertible, entered_back, After, unchanged, done, goes_on, landed, revert_on, revert_by, revert, revert_signed}
 use Rattle.steps.proofs.EnterLaws.{back_unopened, back_none, back_enters, back_is}
 use Rattle.history.specs.Model.{Form, Plain, Signed, Call, Commit, Stepping, Ruling, Accepted, Refused, Dropped, ending_of}
@@ -53,19 +52,19 @@ use Rattle.layout.proofs.TableLaws.{part_length}
 
 -- ---- nothing remembered
 
-no_header : (n : ℕ) → judged_header n nothing ≡ BadHeader Format
+no_header : (n : ℕ) → judged_header n nothing ≡ Err Format
 unfolding judged_header kind_in nothing opens_with same_bytes part
 no_header n = refl
 
 -- an image that opens has some header
-unlike : (image : List ℕ) (c : Container) → opened image ≡ opening.Valid c → same_bytes (header_bytes image) nothing ≡ false
+unlike : (image : List ℕ) (c : Container) → opened image ≡ Ok c → same_bytes (header_bytes image) nothing ≡ false
 unlike image c o = by (same_bytes (header_bytes image) nothing) refl
   where
     by : (t : Bool) → same_bytes (header_bytes image) nothing ≡ t → t ≡ false
     by false e = refl
     by true e =
-        let h : judged_header (length image) (header_bytes image) ≡ GoodHeader c.header = (checked image c o).header in
-        let k : judged_header (length image) (header_bytes image) ≡ BadHeader Format =
+        let h : judged_header (length image) (header_bytes image) ≡ Ok c.header = (checked image c o).header in
+        let k : judged_header (length image) (header_bytes image) ≡ Err Format =
         ap (judged_header (length image)) (same_is (header_bytes image) nothing e) ∙ no_header (length image) in
         let z : ◌≡◌ {A = ℕ} 0 1 = cc in
         absurd (omega arith)
@@ -101,13 +100,13 @@ back_answers (Signed key signer) st c = by (signed_header st.session.header sign
     by (signing.Refused r) = refl
 
 -- a session that is idle and remembers nothing
-none_back : (image : List ℕ) (c : Container) → opened image ≡ opening.Valid c → entered_back image idle ≡ opening.Refused NothingToRevert
+none_back : (image : List ℕ) (c : Container) → opened image ≡ Ok c → entered_back image idle ≡ Err NothingToRevert
 unfolding idle revertible
 none_back image c o =
     sym (back_none image idle (opened image) refl c o refl
-    (left_fails (same_bytes (header_bytes image) nothing) (is_valid (opened (stored_header image nothing))) (unlike image c o)))
+    (left_fails (same_bytes (header_bytes image) nothing) (is_ok (opened (stored_header image nothing))) (unlike image c o)))
 
-pub fresh : (form : Form) (image : List ℕ) (c : Container) → opened image ≡ opening.Valid c
+pub fresh : (form : Form) (image : List ℕ) (c : Container) → opened image ≡ Ok c
     → reverted_as form (record { image = image; session = idle }) ≡ unchanged image idle NothingToRevert
 fresh form image c o =
     let st : State = record { image = image; session = idle } in
@@ -118,7 +117,7 @@ fresh form image c o =
 -- one that is not refused
 pub record Reached (form : Form) (st : State) : Type 0 where
   pub container : Container
-  pub opens : opened st.image ≡ opening.Valid container
+  pub opens : opened st.image ≡ Ok container
   pub rests : st.session.begun ≡ false
   pub revertible : revertible st.image st.session.header st.session.later ≡ true
   pub after : reverted_as form st ≡ revert_next form st container
@@ -169,20 +168,20 @@ pub busy : (form : Form) (st : State) → st.session.begun ≡ true → ruled_re
 unfolding entered_back
 busy form st b = ap (λ (a : After). ending_of a.outcome) (revert_is form st) ∙ by (opened st.image)
   where
-    by : (o : Opened) → ending_of (goes_on st.image st.session (revert_next form st) (while_revertible st.image st.session (while_idle st.session o))).outcome ≡ Refused
-    by (opening.Refused r) = refl
-    by (opening.Valid c) = rw b
+    by : (o : Result Container Refusal) → ending_of (goes_on st.image st.session (revert_next form st) (while_revertible st.image st.session (while_idle st.session o))).outcome ≡ Refused
+    by (Err r) = refl
+    by (Ok c) = rw b
 
 -- and so is one with nothing remembered, of whatever image
 pub forgot : (form : Form) (image : List ℕ) → ruled_revert form (record { image = image; session = idle }) ≡ Refused
 forgot form image = by (opened image) refl
   where
-    by : (o : Opened) → opened image ≡ o → ruled_revert form (record { image = image; session = idle }) ≡ Refused
-    by (opening.Refused r) p =
+    by : (o : Result Container Refusal) → opened image ≡ o → ruled_revert form (record { image = image; session = idle }) ≡ Refused
+    by (Err r) p =
         ap (λ (a : After). ending_of a.outcome)
         (revert_is form (record { image = image; session = idle })
         ∙ ap (goes_on image idle (revert_next form (record { image = image; session = idle }))) (sym (back_unopened image idle (opened image) refl r p) ∙ p))
-    by (opening.Valid c) p = ap (λ (a : After). ending_of a.outcome) (fresh form image c p)
+    by (Ok c) p = ap (λ (a : After). ending_of a.outcome) (fresh form image c p)
 
 -- ---- the bytes
 
@@ -197,7 +196,7 @@ put_back base header m n =
 
 -- ---- after a commit
 
-module _ (image : List ℕ) (c : Container) (o : opened image ≡ opening.Valid c) (staged : table_staged c image ≡ true) (form : Form) where
+module _ (image : List ℕ) (c : Container) (o : opened image ≡ Ok c) (staged : table_staged c image ≡ true) (form : Form) where
   g : Guarantees image c
   g = guarantees image c o
 
@@ -228,10 +227,10 @@ module _ (image : List ℕ) (c : Container) (o : opened image ≡ opening.Valid 
   revertible_there : revertible there (header_bytes image) (header_bytes there) ≡ true
   unfolding revertible
   revertible_there =
-      and_both (same_bytes (header_bytes there) (header_bytes there)) (is_valid (opened (stored_header there (header_bytes image))))
+      and_both (same_bytes (header_bytes there) (header_bytes there)) (is_ok (opened (stored_header there (header_bytes image))))
       (same_refl (header_bytes there))
-      (ap (λ (x : List ℕ). is_valid (opened x)) restored
-      ∙ ap is_valid (front_opened image (stamped form (header_bytes there) image) (stamped_front form (header_bytes there) image) ∙ o))
+      (ap (λ (x : List ℕ). is_ok (opened x)) restored
+      ∙ ap is_ok (front_opened image (stamped form (header_bytes there) image) (stamped_front form (header_bytes there) image) ∙ o))
 
   abbrev state : State
   state = record { image = there; session = session }
@@ -255,7 +254,7 @@ module _ (image : List ℕ) (c : Container) (o : opened image ≡ opening.Valid 
 -- what an accepted commit leaves
 pub record Lands (form : Form) (st : State) : Type 0 where
   pub container : Container
-  pub opens : opened st.image ≡ opening.Valid container
+  pub opens : opened st.image ≡ Ok container
   pub staged : table_staged container st.image ≡ true
   pub after : next (Commit form) st ≡ left (landed st.image (landed_image form container st.image))
 
@@ -300,19 +299,19 @@ module _ (form back : Form) (st : State) (e : ruled (Commit form) st ≡ Accepte
 -- ---- signed
 
 -- what an accepted one leaves opens, since the image opened under the former header
-valid : (o : Opened) → is_valid o ≡ true → (c : Container) × (o ≡ opening.Valid c)
-valid (opening.Valid c) e = (c, refl)
-valid (opening.Refused r) e = absurd (let z : ◌≡◌ {A = ℕ} 0 1 = cc in omega arith)
+valid : (o : Result Container Refusal) → is_ok o ≡ true → (c : Container) × (o ≡ Ok c)
+valid (Ok c) e = (c, refl)
+valid (Err r) e = absurd (let z : ◌≡◌ {A = ℕ} 0 1 = cc in omega arith)
 
-opens_former : (image former later : List ℕ) → revertible image former later ≡ true → is_valid (opened (stored_header image former)) ≡ true
+opens_former : (image former later : List ℕ) → revertible image former later ≡ true → is_ok (opened (stored_header image former)) ≡ true
 unfolding revertible
-opens_former image former later e = and_right (same_bytes (header_bytes image) later) (is_valid (opened (stored_header image former))) e
+opens_former image former later e = and_right (same_bytes (header_bytes image) later) (is_ok (opened (stored_header image former))) e
 
 same_back : (form : Form) (image former : List ℕ) → opened (stored_as form image former) ≡ opened (stored_header image former)
 same_back form image former =
     ap opened (stored_swapped form image former) ∙ front_opened (stored_header image former) (stamped form former (stored_header image former)) (stamped_front form former (stored_header image former))
 
-opens_back : (form : Form) (st : State) (r : Reached form st) → (c : Container) × (opened (stored_as form st.image st.session.header) ≡ opening.Valid c)
+opens_back : (form : Form) (st : State) (r : Reached form st) → (c : Container) × (opened (stored_as form st.image st.session.header) ≡ Ok c)
 opens_back form st r =
     let (c, o) = valid (opened (stored_header st.image st.session.header)) (opens_former st.image st.session.header st.session.later r.revertible) in
     (c, same_back form st.image st.session.header ∙ o)
@@ -325,13 +324,13 @@ signs_first key signer st e =
     accepted_header st.session.header signer
     (by (signed_header st.session.header signer) r.container (subst (λ (a : After). ending_of a.outcome ≡ Accepted) r.after e))
   where
-    by : (a : signing.Answer) (c : Container) → ending_of (revert_by st.image st.session key signer a c).outcome ≡ Accepted → signing.outcome_of a ≡ outcome.Accepted
+    by : (a : signing.Answer) (c : Container) → ending_of (revert_by st.image st.session key signer a c).outcome ≡ Accepted → signing.outcome_of a ≡ Ok tt
     by (signing.Signs block) c e = refl
     by (signing.Refused r) c e = not_both e refl
 
 -- and under the same key and signer
 signs : (key : List ℕ) (signer : Signer) (st : State) → length st.session.header ≡ 256 → ruled_revert (Signed key signer) st ≡ Accepted
-    → (c : Container) × (opened_as (Signed key signer) (next_revert (Signed key signer) st).image ≡ opening.Valid c) × (opened (next_revert (Signed key signer) st).image ≡ opening.Valid c)
+    → (c : Container) × (opened_as (Signed key signer) (next_revert (Signed key signer) st).image ≡ Ok c) × (opened (next_revert (Signed key signer) st).image ≡ Ok c)
 signs key signer st full e =
     let r = reverted_by (Signed key signer) st e in
     let former = st.session.header in

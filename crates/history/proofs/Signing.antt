@@ -1,5 +1,6 @@
 -- Commits and their units, from the calls' own definitions: which bytes a commit stores to, and that a signed one opens under its key and
 -- signer. Assumes nothing else.
+use Rattle.std.specs.Prelude.{Ok}
 use mathlib.Core.Path.{◌≡◌, refl, sym, ap, ◌∙◌, subst}
 use mathlib.Core.Bool.{Bool, true, false, cond}
 use mathlib.Core.List.{List}
@@ -11,7 +12,6 @@ use Rattle.number.specs.Ranges.{part}
 use Rattle.number.proofs.FrameLaws.{keeps_refl}
 use Rattle.number.proofs.ListLaws.{same_refl}
 use Rattle.layout.specs.declared.Container.{Container}
-use Rattle.layout.specs.declared.Opened.TheVariants as opening
 use Rattle.layout.specs.Headers.{header_bytes}
 use Rattle.layout.specs.Opening.{opened}
 use Rattle.layout.proofs.GuaranteeLaws.{guarantees}
@@ -80,14 +80,14 @@ signs_too kind signer header header' block e = by (same_kind kind (kind_of signe
     by true e = refl
     by false e = let z : ◌≡◌ {A = ℕ} 0 1 = cc in absurd (omega arith)
 
-pub opens_signed : (after key block : List ℕ) (signer : Signer) (c : Container) → opened after ≡ opening.Valid c → signed after signer ≡ Signs block
-    → part after signature_range ≡ signature key signer (header_bytes after) → opened_signed after key signer ≡ opening.Valid c
+pub opens_signed : (after key block : List ℕ) (signer : Signer) (c : Container) → opened after ≡ Ok c → signed after signer ≡ Signs block
+    → part after signature_range ≡ signature key signer (header_bytes after) → opened_signed after key signer ≡ Ok c
 unfolding opened_signed
 opens_signed after key block signer c o s f = rw (opened_signed, o, s, f, same_refl (signature key signer (header_bytes after))) o
 
 module _ (W : CallLaws) (st : State) (key : List ℕ) (signer : Signer) (e : ruled (Commit (Signed key signer)) st ≡ Accepted) where
-  after_signed : (c : Container) → opened st.image ≡ opening.Valid c
-      → (d : Container) × (opened_signed (landed_image (Signed key signer) c st.image) key signer ≡ opening.Valid d)
+  after_signed : (c : Container) → opened st.image ≡ Ok c
+      → (d : Container) × (opened_signed (landed_image (Signed key signer) c st.image) key signer ≡ Ok d)
   after_signed c o =
       let b = committed_by (Signed key signer) st c o e in
       let after = landed_image (Signed key signer) c st.image in
@@ -105,11 +105,11 @@ module _ (W : CallLaws) (st : State) (key : List ℕ) (signer : Signer) (e : rul
             (stored_code st.image (header_committed c st.image) g.shortest (new_size st.image c g) key signer ∙ ap (signature key signer) (sym w.header)),
       )
 
-  opens_after : (c : Container) × (opened_signed (next (Commit (Signed key signer)) st).image key signer ≡ opening.Valid c)
+  opens_after : (c : Container) × (opened_signed (next (Commit (Signed key signer)) st).image key signer ≡ Ok c)
   unfolding perform
   opens_after =
       let (c, o) = opens_first (Signed key signer) st e in
-      subst (λ (a : After). (d : Container) × (opened_signed a.image key signer ≡ opening.Valid d)) (sym (committed_by (Signed key signer) st c o e).after) (after_signed c o)
+      subst (λ (a : After). (d : Container) × (opened_signed a.image key signer ≡ Ok d)) (sym (committed_by (Signed key signer) st c o e).after) (after_signed c o)
 
 pub signing : CallLaws → SigningTheorem
 signing W = record { opens = opens_after W }

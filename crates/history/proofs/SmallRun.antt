@@ -1,5 +1,7 @@
 -- The theorems' premises can be met: on the small image a session begins, writes the whole of level 4 and commits; the power fails; then another
 -- session does the same and steps back. Assumes nothing.
+use Rattle.std.specs.Prelude.{Result, Ok, Err}
+use Rattle.layout.specs.declared.Refusal.{Refusal}
 use mathlib.Core.Path.{◌≡◌, refl, sym, ap, ◌∙◌, subst}
 use mathlib.Core.Bool.{Bool, true, false, ◌||◌, cond}
 use mathlib.Core.List.{List, [], ◌∷◌}
@@ -17,8 +19,6 @@ use Rattle.number.proofs.ListLaws.{bytes_is}
 use Rattle.number.proofs.OverlayLaws.{overlay_in}
 use Rattle.sha256.specs.Sha256.{sha256}
 use Rattle.layout.specs.declared.Container.{Container}
-use Rattle.layout.specs.declared.Opened.{Opened}
-use Rattle.layout.specs.declared.Opened.TheVariants as opening
 use Rattle.layout.specs.declared.Refusal.TheVariants.{OutOfRange}
 use Rattle.layout.specs.Headers.{header_bytes, diff_header}
 use Rattle.layout.specs.Descriptors.{difi_fields, ivfc_fields, partition_fields}
@@ -34,7 +34,6 @@ use Rattle.update.specs.Staged.{written_to, holds_zero}
 use Rattle.update.specs.Rules.{WriteRules}
 use Rattle.update.proofs.ImageLaws.{write_bytes, write_held}
 use Rattle.views.specs.Places.{partitions, slot_of, partition_of, master_in, view_in, staged_view, space_of}
-use Rattle.layout.specs.declared.Outcome.TheVariants as outcome
 use Rattle.steps.specs.Reading.{touched, refuse_lowest, refuse_outside}
 use Rattle.steps.specs.Sessions.{idle, begun_with, begun_image, current, ends_outcome, write_outcome}
 use Rattle.steps.specs.Calls.{After, finished, goes_on, write_on, write}
@@ -121,7 +120,7 @@ abbrev pub written : Call
 written = Write 0 0 (replicate 32 7)
 
 -- where 32 bytes from 0 on touch block 0 alone, a test that holds there refuses nothing
-passes : (P : ℕ → Bool) (view : View) → block_of view.level4 0 ≡ 0 → touched view.level4 0 32 ≡ 1 → P 0 ≡ true → refuse_lowest P view 0 32 ≡ outcome.Accepted
+passes : (P : ℕ → Bool) (view : View) → block_of view.level4 0 ≡ 0 → touched view.level4 0 32 ≡ 1 → P 0 ≡ true → refuse_lowest P view 0 32 ≡ Ok tt
 unfolding refuse_lowest first_not
 passes P view b t p = rw (b, t, p)
 
@@ -144,13 +143,13 @@ module _ (l : Level) (s : l.size ≡ 32) (k : l.log ≡ 5) where
   covered_one = rw (s, k)
 
 -- a write that passes each check is accepted
-write_accepted : (st : State) (c : Container) (q place : ℕ) (bytes : List ℕ) → opened st.image ≡ opening.Valid c → st.session.begun ≡ true
+write_accepted : (st : State) (c : Container) (q place : ℕ) (bytes : List ℕ) → opened st.image ≡ Ok c → st.session.begun ≡ true
     → current c st.image st.session ≡ true → ltb q (partitions c) ≡ true
-    → write_outcome (staged_view c q) st.image place (length bytes) ≡ outcome.Accepted
+    → write_outcome (staged_view c q) st.image place (length bytes) ≡ Ok tt
     → holds_zero (staged_view c q) place bytes (written_to (staged_view c q) place bytes st.image) ≡ false → ruled (Write q place bytes) st ≡ Accepted
 unfolding perform write finished
 write_accepted st c q place bytes o b k t w z =
-    ap (λ (x : Opened). ending_of (goes_on st.image st.session (write_on st.image st.session q place bytes) x).outcome)
+    ap (λ (x : Result Container Refusal). ending_of (goes_on st.image st.session (write_on st.image st.session q place bytes) x).outcome)
     (sym (enters st.image st.session (opened st.image) refl c o b k))
     ∙ rw (z, w, t)
 
@@ -166,7 +165,7 @@ small_calls = Begin ∷ written ∷ Commit Plain ∷ []
 abbrev pub before : List ℕ → State
 before image = next written (next Begin (idle_on image))
 
-module _ (image : List ℕ) (c : Container) (o : opened image ≡ opening.Valid c) (s : Small c) where
+module _ (image : List ℕ) (c : Container) (o : opened image ≡ Ok c) (s : Small c) where
   pub start : Start 0 (idle_on image)
   start = record { has = record { container = c; opens = o; there = s.there; internal = s.internal }; idle = idle_rests }
 
@@ -182,7 +181,7 @@ module _ (image : List ℕ) (c : Container) (o : opened image ≡ opening.Valid 
   unfolding perform
   begun_is = ap (λ (a : After). record { image = a.image; session = a.session }) (begun_by image idle c o begin_there).after
 
-  begun_opens : opened (begun_image c image) ≡ opening.Valid c
+  begun_opens : opened (begun_image c image) ≡ Ok c
   begun_opens =
       (demand3.crash.answers image (begun_image c image) c [] o
       (left_agrees (InPlaceOf c []) image (begun_image c image) c o (left_more (InPlaceOf c []) c image (begun_image c image) (laws.begins image c o).stores))).opening Plain ∙ o
@@ -198,10 +197,10 @@ module _ (image : List ℕ) (c : Container) (o : opened image ≡ opening.Valid 
   unfolding level_of
   log4 = (s.levels 4 (omega arith)).1
 
-  outcome_there : write_outcome view (begun_image c image) 0 32 ≡ outcome.Accepted
+  outcome_there : write_outcome view (begun_image c image) 0 32 ≡ Ok tt
   unfolding write_outcome ends_outcome refuse_outside
   outcome_there =
-      ap (λ (n : ℕ). cond (leb 32 n) (ends_outcome view (begun_image c image) 0 32) (outcome.Refused OutOfRange)) size4
+      ap (λ (n : ℕ). cond (leb 32 n) (ends_outcome view (begun_image c image) 0 32) (Err OutOfRange)) size4
       ∙ passes _ view (first_block view.level4 size4 log4) (touched_one view.level4 size4 log4)
       (ap (λ (t : Bool). t || verified view (begun_image c image) 4 0) (covered_one view.level4 size4 log4))
 
@@ -247,13 +246,13 @@ module _ (image : List ℕ) (c : Container) (o : opened image ≡ opening.Valid 
   commit_there = ((demand3.progress (idle_on image) c o idle_rests (Begin ∷ written ∷ [])).begun begun_there).0
 
   -- the image that it leaves opens so too
-  written_opens : opened (before image).image ≡ opening.Valid c
+  written_opens : opened (before image).image ≡ Ok c
   unfolding after events commits
   written_opens =
       (demand3.crash.answers image (before image).image c (events (Begin ∷ written ∷ []) (idle_on image)) o
       (demand3.crash.stores (idle_on image) (Begin ∷ written ∷ []) c o (rw (begin_there, write_there)))).opening Plain ∙ o
 
-  pub landed_opens : opened (next (Commit Plain) (before image)).image ≡ opening.Valid (switched c)
+  pub landed_opens : opened (next (Commit Plain) (before image)).image ≡ Ok (switched c)
   unfolding perform
   landed_opens =
       let b = committed_by Plain (before image) c written_opens commit_there in
@@ -292,14 +291,14 @@ pub small_premise : Premise small_term (at_first small_image)
 unfolding Premise
 small_premise = (tt, (tt, (tt, (left _, (tt, (tt, (tt, (tt, tt))))))))
   where
-    left : (found : List ℕ) (c : Container) → opened (found_after (Commit Plain) (ruled (Commit Plain) (before small_image)) found landed_small) ≡ opening.Valid c
+    left : (found : List ℕ) (c : Container) → opened (found_after (Commit Plain) (ruled (Commit Plain) (before small_image)) found landed_small) ≡ Ok c
         → AgreesBut (SomeExternal c) c (found_after (Commit Plain) (ruled (Commit Plain) (before small_image)) found landed_small) landed_small
     left found c o =
         subst (λ (r : Ruling). AgreesBut (SomeExternal c) c (found_after (Commit Plain) r found landed_small) landed_small)
         (sym (commit_there small_image small_container small_opens small)) (agrees_refl (SomeExternal c) c landed_small)
 
 -- each call of the second session is accepted, and so is the revert
-landed_small_lem : opened landed_small ≡ opening.Valid (switched small_container)
+landed_small_lem : opened landed_small ≡ Ok (switched small_container)
 landed_small_lem = landed_opens small_image small_container small_opens small
 
 again : Small (switched small_container)

@@ -23,7 +23,7 @@ use Rattle.layout.specs.Guarantees.{Guarantees}
 use Rattle.dpfs.specs.Rules.{Aside}
 use Rattle.dpfs.proofs.SpareLaws.{aside_swap}
 use Rattle.views.specs.Places.{partitions, slot_of, partition_of, tree_of, space_of}
-use Rattle.views.proofs.PlaceLaws.{first_there, second_there, third_missing, Present, present, active_table, space_rules}
+use Rattle.views.proofs.PlaceLaws.{first_there, second_there, third_missing, Present, present, active_table, space_rules, second_is}
 use Rattle.steps.specs.Sessions.{selector_place, selector_flipped, staged_table, in_master, in_some_master, table_staged}
 use Rattle.layout.proofs.TableLaws.{part_length}
 use Rattle.steps.proofs.BelowLaws.{all_below_lem}
@@ -61,9 +61,9 @@ module _ (image : List ℕ) (c : Container) (g : Guarantees image c) where
   pub trees_apart : (p q : ℕ) → p < partitions c → q < partitions c → (q ≡ p → ⊥) → Aside (tree_of c p) (tree_of c q)
   unfolding space_of
   trees_apart zero zero h k n = absurd (n refl)
-  trees_apart zero (suc zero) h k n = (space_rules image c g).aside (eq-eqb (partitions c) 2 (second_there (length image) c.header g.header k))
+  trees_apart zero (suc zero) h k n = (space_rules image c g).aside (tree_of c 1) (second_is c (second_there (length image) c.header g.header k))
   trees_apart (suc zero) zero h k n =
-      aside_swap (tree_of c 0) (tree_of c 1) ((space_rules image c g).aside (eq-eqb (partitions c) 2 (second_there (length image) c.header g.header h)))
+      aside_swap (tree_of c 0) (tree_of c 1) ((space_rules image c g).aside (tree_of c 1) (second_is c (second_there (length image) c.header g.header h)))
   trees_apart (suc zero) (suc zero) h k n = absurd (n refl)
   trees_apart zero (suc (suc q)) h k n = absurd (third_missing (length image) c.header g.header q k)
   trees_apart (suc zero) (suc (suc q)) h k n = absurd (third_missing (length image) c.header g.header q k)

@@ -1,4 +1,5 @@
 -- Every term follows its list of versions, from the laws of the calls. Assumes nothing else.
+use Rattle.std.specs.Prelude.{Ok}
 use mathlib.Core.Path.{◌≡◌, refl, sym, ap, ◌∙◌, subst}
 use mathlib.Core.Bool.{Bool, true, false, cond}
 use mathlib.Core.List.{List, [], ◌∷◌, ◌++◌}
@@ -9,7 +10,6 @@ use native.Mathlib.Omega.{arith}
 use lib.Dec.{eqb}
 use Rattle.number.proofs.FrameLaws.{keeps_refl, keeps_trans, keeps_more}
 use Rattle.layout.specs.declared.Container.{Container}
-use Rattle.layout.specs.declared.Opened.TheVariants as opening
 use Rattle.layout.specs.Opening.{opened}
 use Rattle.layout.specs.Guarantees.{Guarantees}
 use Rattle.layout.proofs.GuaranteeLaws.{guarantees}
@@ -87,11 +87,11 @@ first_is e = cc
 
 -- ---- what is left
 
-module _ (image left : List ℕ) (c : Container) (o : opened image ≡ opening.Valid c) (k : LeftBut (SomeExternal c) c image left) where
+module _ (image left : List ℕ) (c : Container) (o : opened image ≡ Ok c) (k : LeftBut (SomeExternal c) c image left) where
   g' : Guarantees image c
   g' = guarantees image c o
 
-  opens_left : opened left ≡ opening.Valid c
+  opens_left : opened left ≡ Ok c
   opens_left = still_opens image left c g' (SomeExternal c) (λ i w. w) k o
 
   version_left : (q : ℕ) → q < partitions c → (partition_of c q).difi.external ≡ false → version_of (committed_view c q) left ≡ version_of (committed_view c q) image

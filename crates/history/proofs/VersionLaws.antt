@@ -1,4 +1,6 @@
 -- What a view's version says: its reads and questions answer as the view's own do. Assumes nothing.
+use Rattle.std.specs.Prelude.{Result, Ok, Err}
+use Rattle.layout.specs.declared.Refusal.{Refusal}
 use mathlib.Core.Path.{◌≡◌, refl, sym, ap, ◌∙◌}
 use mathlib.Core.Bool.{Bool, true, false, not, cond}
 use mathlib.Core.List.{List, [], ◌∷◌}
@@ -18,11 +20,7 @@ use Rattle.layout.specs.declared.Refusal.TheVariants.{OutOfRange, Unverified}
 use Rattle.ivfc.specs.declared.View.{View}
 use Rattle.ivfc.specs.Views.{content_of, verified}
 use Rattle.ivfc.specs.Verified.{first_not, count_of}
-use Rattle.layout.specs.declared.Outcome.{Outcome}
-use Rattle.layout.specs.declared.Outcome.TheVariants as outcome
-use Rattle.steps.specs.declared.Verdict.TheVariants as verdict
-use Rattle.steps.specs.declared.Count.TheVariants as count
-use Rattle.steps.specs.Reading.{Read, touched, refuse_lowest, refuse_outside, read_outcome, filled, read_from, said, verdict_on, count_in}
+use Rattle.steps.specs.Reading.{Read, touched, refuse_lowest, refuse_outside, read_outcome, filled, read_from, verdict_on, count_in}
 use Rattle.steps.specs.Calls.{unread}
 use Rattle.history.specs.Model.{lowest, handed, read_of, judged_of, count_true}
 use Rattle.views.specs.Versions.{flags, version_of}
@@ -126,15 +124,15 @@ slice_bytes f size place n h =
 -- an outcome and its buffer, by the check for 9 and the block that is found
 by_block : (t : Bool) (b : ℕ) (content buffer : List ℕ)
     → ◌≡◌ {A = Read} (record {
-      outcome = cond t (outcome.Refused (Unverified b)) outcome.Accepted;
-      buffer = filled (cond t (outcome.Refused (Unverified b)) outcome.Accepted) buffer content;
+      outcome = cond t (Err (Unverified b)) (Ok tt);
+      buffer = filled (cond t (Err (Unverified b)) (Ok tt)) buffer content;
     })
     (handed content buffer (cond t (some b) none))
 by_block true b content buffer = refl
 by_block false b content buffer = refl
 
-by_range : (t : Bool) (o : Outcome) (content buffer : List ℕ) (read : Read) → (t ≡ true → record { outcome = o; buffer = filled o buffer content } ≡ read)
-    → record { outcome = cond t o (outcome.Refused OutOfRange); buffer = filled (cond t o (outcome.Refused OutOfRange)) buffer content }
+by_range : (t : Bool) (o : Result (Unit {0}) Refusal) (content buffer : List ℕ) (read : Read) → (t ≡ true → record { outcome = o; buffer = filled o buffer content } ≡ read)
+    → record { outcome = cond t o (Err OutOfRange); buffer = filled (cond t o (Err OutOfRange)) buffer content }
     ≡ cond t read (unread buffer OutOfRange)
 by_range true o content buffer read h = h refl
 by_range false o content buffer read h = refl
@@ -152,7 +150,7 @@ module _ (view : View) (image : List ℕ) where
       let shown = take n (drop place (bytes f 0 l.size)) in
       let low = lowest (touches l place n) 0 (flags P 0 (blocks l)) in
       by_range (leb (place + n) l.size)
-      (cond (ltb (first_not P first k) (first + k)) (outcome.Refused (Unverified (first_not P first k))) outcome.Accepted)
+      (cond (ltb (first_not P first k) (first + k)) (Err (Unverified (first_not P first k))) (Ok tt))
       (bytes f place n) buffer (handed shown buffer low)
       (λ e. let h : place + n ≤ l.size = leb-true (place + n) l.size e in
       by_block (ltb (first_not P first k) (first + k)) (first_not P first k) (bytes f place n) buffer
@@ -167,18 +165,18 @@ module _ (view : View) (image : List ℕ) where
       rw (length_flags P 0 (blocks view.level4)) (by (ltb b (blocks view.level4)) refl)
     where
       by : (t : Bool) → ltb b (blocks view.level4) ≡ t
-          → cond t (said (verified view image 4 b)) (verdict.Refused OutOfRange)
-          ≡ cond t (said (get_or (flags (verified view image 4) 0 (blocks view.level4)) b false)) (verdict.Refused OutOfRange)
+          → cond t (Ok (verified view image 4 b)) (Err OutOfRange)
+          ≡ cond t (Ok (get_or (flags (verified view image 4) 0 (blocks view.level4)) b false)) (Err OutOfRange)
       by true e =
           let z : 0 + b ≡ b = omega arith in
-          ap said (sym (get_d_flags (verified view image 4) 0 (blocks view.level4) b (ltb-true _ _ e) ∙ ap (verified view image 4) z))
+          ap Ok (sym (get_d_flags (verified view image 4) 0 (blocks view.level4) b (ltb-true _ _ e) ∙ ap (verified view image 4) z))
       by false e = refl
 
-  pub count_version : count_in view image ≡ count.Blocks (count_true (version_of view image).verified)
+  pub count_version : count_in view image ≡ Ok (count_true (version_of view image).verified)
   unfolding count_in version_of count_of
   count_version =
       let P = verified view image 4 in
       let h = count_flags P 0 (blocks view.level4) in
       let z : 0 + blocks view.level4 ≡ blocks view.level4 = omega arith in
       let e : count_of P (0 + blocks view.level4) ≡ count_of P (blocks view.level4) = ap (count_of P) z in
-      ap count.Blocks (omega arith)
+      ap Ok (omega arith)

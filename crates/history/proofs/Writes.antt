@@ -1,5 +1,6 @@
 -- What a write leaves: only free bytes differ, a staged table stays staged, the bytes are laid over the partition's staged version, and the
 -- other partition's is as it was. Assumes nothing.
+use Rattle.std.specs.Prelude.{Ok}
 use mathlib.Core.Path.{◌≡◌, refl, sym, ap, ◌∙◌}
 use mathlib.Core.Bool.{Bool, true, false, not, ◌||◌, cond, true≢false, or-true}
 use mathlib.Core.List.{List, ◌∷◌}
@@ -19,7 +20,6 @@ use Rattle.number.proofs.ListLaws.{length_bytes, get_d_bytes, bytes_is}
 use Rattle.number.proofs.OverlayLaws.{within_in}
 use Rattle.number.proofs.FrameLaws.{keeps_more}
 use Rattle.layout.specs.declared.Container.{Container}
-use Rattle.layout.specs.declared.Opened.TheVariants as opening
 use Rattle.layout.specs.Tables.{inactive}
 use Rattle.layout.specs.Opening.{opened}
 use Rattle.layout.specs.Guarantees.{Guarantees}
@@ -34,7 +34,6 @@ use Rattle.update.proofs.ImageLaws.{write_stores, write_bytes, write_verified, w
 use Rattle.views.specs.Places.{partitions, slot_of, partition_of, tree_of, view_in, master_in, staged_view, space_of}
 use Rattle.steps.proofs.WriteLaws.{write_rules}
 use Rattle.views.proofs.PlaceLaws.{second_there, third_missing, staged_rules, staged_master, tree_among}
-use Rattle.layout.specs.declared.Outcome.TheVariants as outcome
 use Rattle.steps.specs.Sessions.{staged_table, in_master, in_some_master, table_staged, write_outcome}
 use Rattle.history.specs.Model.{marked, laid_over}
 use Rattle.views.specs.Versions.{flags, version_of}
@@ -84,8 +83,8 @@ version_laid view image after place values same blocked =
     ∙ sym (marked_flags (touches view.level4 place (length values)) (verified view image 4) 0 (blocks view.level4)) in
     λ i. record { level = view.level4; bytes = one i; verified = two i }
 
-module _ (image : List ℕ) (c : Container) (o : opened image ≡ opening.Valid c) (q place : ℕ) (values : List ℕ) (there : q < partitions c)
-    (ok : write_outcome (staged_view c q) image place (length values) ≡ outcome.Accepted) where
+module _ (image : List ℕ) (c : Container) (o : opened image ≡ Ok c) (q place : ℕ) (values : List ℕ) (there : q < partitions c)
+    (ok : write_outcome (staged_view c q) image place (length values) ≡ Ok tt) where
   g : Guarantees image c
   g = guarantees image c o
 

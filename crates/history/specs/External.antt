@@ -1,11 +1,10 @@
 -- Writes to an external level 4, which are made in place (02: the undoubled partition). What demand 3 says of such a partition: its hash levels are
 -- staged as usual, so that it follows the same model but in the blocks that such writes touched.
-use Rattle.std.specs.Prelude.{◌≡◌, ℕ, ◌+◌, ◌≤◌, ◌<◌, Bool, true, false, ◌&&◌, ◌||◌, List, [], ◌∷◌, ◌++◌, ◌⊎◌, ◌↔◌, length, get_or, eqb}
+use Rattle.std.specs.Prelude.{◌≡◌, ℕ, ◌+◌, ◌≤◌, ◌<◌, Bool, true, false, ◌&&◌, ◌||◌, List, [], ◌∷◌, ◌++◌, ◌⊎◌, ◌↔◌, length, get_or, eqb, Ok}
 use Rattle.std.proofs.Math.Option.{Option, none, some}
 use Rattle.number.specs.declared.Level.{Level}
 use Rattle.number.specs.Blocks.{blocks, block_of, touches}
 use Rattle.layout.specs.declared.Container.{Container}
-use Rattle.layout.specs.declared.Opened.TheVariants as opening
 use Rattle.layout.specs.Opening.{opened}
 use Rattle.dpfs.specs.Free.{InRange}
 use Rattle.ivfc.specs.Views.{level_of, content_of}
@@ -83,7 +82,7 @@ pub record SameAnswersBut (c : Container) (list : List Event) (image left : List
 
 pub record InPlaceTheorem : Type 0 where
   -- a block that was written to in place is read by its bytes as they are and by the committed entries: the committed hash levels stay
-  pub entries : (image left : List ℕ) (c : Container) (list : List Event) → opened image ≡ opening.Valid c → AgreesBut (InPlaceOf c list) c image left
+  pub entries : (image left : List ℕ) (c : Container) (list : List Event) → opened image ≡ Ok c → AgreesBut (InPlaceOf c list) c image left
       → (q : ℕ) → q < partitions c → (i y : ℕ) → i ≤ 3 → y < (level_of (committed_view c q) i).size
       → content_of (committed_view c q) left i y ≡ content_of (committed_view c q) image i y
 
@@ -92,7 +91,7 @@ pub record InPlaceTheorem : Type 0 where
 -- an image that opens, with a partition p
 pub record There (image : List ℕ) (p : ℕ) : Type 0 where
   pub container : Container
-  pub opens : opened image ≡ opening.Valid container
+  pub opens : opened image ≡ Ok container
   pub there : p < partitions container
 
 pub record StartThere (p : ℕ) (st : State) : Type 0 where

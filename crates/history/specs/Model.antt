@@ -1,32 +1,24 @@
 -- The model (01: the bench book) of one partition. It is fed each call's name, its arguments without image and session, and whether it was accepted;
 -- it says what the partition's reads and questions answer, where level 4 is internal; of an external one External.antt says in which blocks.
-use Rattle.std.specs.Prelude.{ℕ, suc, ◌+◌, Bool, false, not, ◌&&◌, ◌||◌, cond, List, [], ◌∷◌, length, get_or, take, drop, leb, ltb, eqb}
+use Rattle.std.specs.Prelude.{ℕ, suc, ◌+◌, Bool, false, not, ◌&&◌, ◌||◌, cond, List, [], ◌∷◌, length, get_or, take, drop, leb, ltb, eqb, Result, Ok, Err}
+use Rattle.layout.specs.declared.Container.{Container}
+use Rattle.layout.specs.declared.Refusal.{Refusal}
 use Rattle.std.proofs.Math.Option
 use Rattle.std.proofs.Math.Option.{Option, none, some, map}
 use Rattle.std.proofs.lemmas.List.Edits.{sets}
 use Rattle.number.specs.Blocks.{touches}
-use Rattle.layout.specs.declared.Opened.{Opened}
 use Rattle.layout.specs.declared.Refusal.TheVariants.{OutOfRange, Unverified, SessionState}
-use Rattle.layout.specs.Refusals.{Said, opened_says, outcome_says}
+use Rattle.layout.specs.Refusals.{Said, outcome_says, count_says}
 use Rattle.views.specs.Versions.{Version}
-use Rattle.layout.specs.declared.Outcome.{Outcome}
-use Rattle.layout.specs.declared.Outcome.TheVariants as outcome
-use Rattle.steps.specs.declared.Verdict.{Verdict}
-use Rattle.steps.specs.declared.Verdict.TheVariants as verdict
-use Rattle.steps.specs.declared.Count.{Count}
-use Rattle.steps.specs.declared.Count.TheVariants as count
 use Rattle.steps.specs.declared.Ending.{Ending}
 use Rattle.steps.specs.declared.Ending.TheVariants as ending
-use Rattle.steps.specs.Answers.{verdict_says, count_says}
-use Rattle.steps.specs.Reading.{Read, said}
+use Rattle.steps.specs.Answers.{verdict_says}
+use Rattle.steps.specs.Reading.{Read}
 use Rattle.steps.specs.Calls.{unread}
 use Rattle.faults.specs.declared.Fault.{Fault}
-use Rattle.save.specs.declared.Sought.{Sought}
-use Rattle.save.specs.Answers.{listed_says, sought_says}
+use Rattle.save.specs.Answers.{Sought, sought_says}
 use Rattle.save.specs.Calls.{Names}
 use Rattle.signing.specs.declared.Signer.{Signer}
-use Rattle.signing.specs.declared.Built.{Built}
-use Rattle.signing.specs.Calls.{built_says}
 
 -- ---- a version
 
@@ -71,13 +63,13 @@ pub data Call : Type 0 where
 
 -- what a call answers, in the types of the public calls, and what its buffer or its row holds then
 pub data Answer : Type 0 where
-  Opening : Opened → Answer
+  Opening : Result Container Refusal → Answer
   Reading : Read → Answer
-  Judging : Verdict → Answer
-  Counting : Count → Answer
-  Listing : Count → (row : List Fault) → Answer
-  Building : Built → (buffer : List ℕ) → Answer
-  Digesting : Outcome → (buffer : List ℕ) → Answer
+  Judging : Result Bool Refusal → Answer
+  Counting : Result ℕ Refusal → Answer
+  Listing : Result ℕ Refusal → (row : List Fault) → Answer
+  Building : Result ℕ Refusal → (buffer : List ℕ) → Answer
+  Digesting : Result (Unit {0}) Refusal → (buffer : List ℕ) → Answer
   Naming : Names → Answer
   Finding : Sought → Answer
   Stepping : Ending → Answer
@@ -96,14 +88,14 @@ ending_of (ending.Refused r) = Refused
 ending_of ending.Dropped = Dropped
 
 abbrev pub ruling : Answer → Ruling
-ruling (Opening opened) = ruled_by (opened_says opened)
+ruling (Opening opened) = ruled_by (outcome_says opened)
 ruling (Reading read) = ruled_by (outcome_says read.outcome)
 ruling (Judging verdict) = ruled_by (verdict_says verdict)
 ruling (Counting count) = ruled_by (count_says count)
 ruling (Listing count row) = ruled_by (count_says count)
-ruling (Building built buffer) = ruled_by (built_says built)
+ruling (Building built buffer) = ruled_by (count_says built)
 ruling (Digesting outcome buffer) = ruled_by (outcome_says outcome)
-ruling (Naming names) = ruled_by (listed_says names.answer)
+ruling (Naming names) = ruled_by (count_says names.answer)
 ruling (Finding sought) = ruled_by (sought_says sought)
 ruling (Stepping ending) = ending_of ending
 
@@ -145,7 +137,7 @@ lowest touched b (v ∷ rest) = cond (touched b && not v) (some b) (lowest touch
 
 -- the bytes, or 10 with the lowest touched block that is not verified
 abbrev pub handed : (content buffer : List ℕ) → Option ℕ → Read
-handed content buffer none = record { outcome = outcome.Accepted; buffer = content }
+handed content buffer none = record { outcome = Ok tt; buffer = content }
 handed content buffer (some b) = unread buffer (Unverified b)
 
 -- a read from a version: 9, else the bytes or 10
@@ -161,8 +153,8 @@ read_staged_of none place buffer = unread buffer SessionState
 read_staged_of (some v) place buffer = read_of v place buffer
 
 -- is block b verified: 9 for a block number past the last, then yes or no
-unfoldable pub judged_of : Version → (b : ℕ) → Verdict
-judged_of v b = cond (ltb b (length v.verified)) (said (get_or v.verified b false)) (verdict.Refused OutOfRange)
+unfoldable pub judged_of : Version → (b : ℕ) → Result Bool Refusal
+judged_of v b = cond (ltb b (length v.verified)) (Ok (get_or v.verified b false)) (Err OutOfRange)
 
 -- how many blocks are verified
 unfoldable pub count_true : List Bool → ℕ
@@ -181,7 +173,7 @@ says p m (Open form) = none
 says p m (ReadCommitted q place buffer) = cond (eqb q p) (some (Reading (read_of m.committed place buffer))) none
 says p m (ReadStaged q place buffer) = cond (eqb q p) (some (Reading (read_staged_of m.staged place buffer))) none
 says p m (IsVerified q b) = cond (eqb q p) (some (Judging (judged_of m.committed b))) none
-says p m (CountVerified q) = cond (eqb q p) (some (Counting (count.Blocks (count_true m.committed.verified)))) none
+says p m (CountVerified q) = cond (eqb q p) (some (Counting (Ok (count_true m.committed.verified)))) none
 says p m (ListFaults row) = none
 says p m (SigningBlock signer buffer) = none
 says p m (SigningDigest signer buffer) = none

@@ -1,10 +1,9 @@
 -- A write on any image that opens, with any session value: the same rules read it back, staged and, once it is committed, committed. The closed
 -- statement; proofs/ReadBack.antt proves it.
-use Rattle.std.specs.Prelude.{◌≡◌, ℕ, ◌≤◌, ◌<◌, true, false, ◌||◌, List, length}
+use Rattle.std.specs.Prelude.{◌≡◌, ℕ, ◌≤◌, ◌<◌, true, false, ◌||◌, List, length, Ok}
 use Rattle.number.specs.Blocks.{blocks, block_of, last_block, touches}
 use Rattle.number.specs.Bytes.{overlay}
 use Rattle.layout.specs.declared.Container.{Container}
-use Rattle.layout.specs.declared.Opened.TheVariants as opening
 use Rattle.layout.specs.Opening.{opened}
 use Rattle.ivfc.specs.Blocks.{parent}
 use Rattle.ivfc.specs.Views.{level_of, content_of, verified}
@@ -70,10 +69,10 @@ pub record Drops (c : Container) (q place : ℕ) (bytes image after : List ℕ) 
   pub session : left ≡ idle
 
 pub record ReadBack : Type 0 where
-  pub accepted : (image : List ℕ) (session : Session) (c : Container) → opened image ≡ opening.Valid c → (q place : ℕ) (bytes : List ℕ)
+  pub accepted : (image : List ℕ) (session : Session) (c : Container) → opened image ≡ Ok c → (q place : ℕ) (bytes : List ℕ)
       → ending_of (write image session q place bytes).outcome ≡ Accepted
       → Accepts c q place bytes image (write image session q place bytes).image session (write image session q place bytes).session
-  pub dropped : (image : List ℕ) (session : Session) (c : Container) → opened image ≡ opening.Valid c → (q place : ℕ) (bytes : List ℕ)
+  pub dropped : (image : List ℕ) (session : Session) (c : Container) → opened image ≡ Ok c → (q place : ℕ) (bytes : List ℕ)
       → ending_of (write image session q place bytes).outcome ≡ Dropped
       → Drops c q place bytes image (write image session q place bytes).image (write image session q place bytes).session
   -- "What would be read if the inactive table were active" (01): what was read of the staged view is read of the committed one once it is committed

@@ -1,8 +1,9 @@
 -- Lists of calls, run by the calls' own definitions. A call that takes the image or the session gets it as the calls before left it.
-use Rattle.std.specs.Prelude.{ℕ, ◌+◌, ◌-◌, Bool, true, false, cond, List, [], ◌∷◌, length, get_or, eqb}
+use Rattle.std.specs.Prelude.{ℕ, ◌+◌, ◌-◌, Bool, true, false, cond, List, [], ◌∷◌, length, get_or, eqb, Result}
+use Rattle.layout.specs.declared.Container.{Container}
+use Rattle.layout.specs.declared.Refusal.{Refusal}
 use Rattle.std.proofs.Math.Option.{Option, none, some}
 use Rattle.number.specs.Bytes.{within}
-use Rattle.layout.specs.declared.Opened.{Opened}
 use Rattle.layout.specs.Opening.{opened}
 use Rattle.signatures.specs.Signatures.{opened_signed}
 use Rattle.steps.specs.declared.Session.{Session}
@@ -22,7 +23,7 @@ pub record Performed : Type 0 where
   pub state : State
 
 -- opening and commit, plain and signed
-abbrev pub opened_as : Form → List ℕ → Opened
+abbrev pub opened_as : Form → List ℕ → Result Container Refusal
 opened_as Plain image = opened image
 opened_as (Signed key signer) image = opened_signed image key signer
 

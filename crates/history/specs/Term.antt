@@ -1,14 +1,12 @@
 -- Reverts (02: steps back) and a whole term's history: any run of sessions on one image, of calls, reverts and crashes (02: cuts). The closed
 -- statements; proofs/Reverts.antt and proofs/Terms.antt prove them. Demand 3 is a part of Theorem.antt and stays as it is: a run's calls are
 -- performed by the same `perform`, and its versions follow the same model.
-use Rattle.std.specs.Prelude.{◌≡◌, ℕ, cond, List, [], ◌∷◌, ◌++◌, length}
+use Rattle.std.specs.Prelude.{◌≡◌, ℕ, cond, List, [], ◌∷◌, ◌++◌, length, Result, Ok}
+use Rattle.layout.specs.declared.Refusal.{Refusal}
 use Rattle.std.proofs.Math.Option.{none, some}
 use Rattle.std.proofs.lemmas.List.Edits.{sets}
 use Rattle.number.specs.Frame.{Keeps}
 use Rattle.layout.specs.declared.Container.{Container}
-use Rattle.layout.specs.declared.Opened.TheVariants as opening
-use Rattle.layout.specs.declared.Outcome.{Outcome}
-use Rattle.layout.specs.declared.Outcome.TheVariants as outcome
 use Rattle.layout.specs.declared.Refusal.TheVariants.{NothingToRevert}
 use Rattle.layout.specs.Headers.{header_bytes}
 use Rattle.layout.specs.Opening.{opened}
@@ -45,8 +43,8 @@ abbrev pub next_revert : Form → State → State
 next_revert form st = (reverted form st).state
 
 -- what a signed one checks last: 15, of the header that it restores
-abbrev pub fits : Form → (header : List ℕ) → Outcome
-fits Plain header = outcome.Accepted
+abbrev pub fits : Form → (header : List ℕ) → Result (Unit {0}) Refusal
+fits Plain header = Ok tt
 fits (Signed key signer) header = outcome_of (signed_header header signer)
 
 -- refusal 21
@@ -98,11 +96,11 @@ pub record RevertTheorem : Type 0 where
       → StepsBack form back st between
   -- a revert straight after an accepted one is 21, and so is one with a session that remembers nothing
   pub again : (form back : Form) (st : State) → ruled_revert form st ≡ Accepted → (reverted back (next_revert form st)).answer ≡ refused21
-  pub fresh : (form : Form) (image : List ℕ) (c : Container) → opened image ≡ opening.Valid c
+  pub fresh : (form : Form) (image : List ℕ) (c : Container) → opened image ≡ Ok c
       → (reverted form (record { image = image; session = idle })).answer ≡ refused21
   -- whatever session is handed in (its header has 256 bytes), after an accepted signed one opening under the same key and signer is accepted
   pub signs : (key : List ℕ) (signer : Signer) (st : State) → length st.session.header ≡ 256 → ruled_revert (Signed key signer) st ≡ Accepted
-      → (c : Container) × (opened_as (Signed key signer) (next_revert (Signed key signer) st).image ≡ opening.Valid c)
+      → (c : Container) × (opened_as (Signed key signer) (next_revert (Signed key signer) st).image ≡ Ok c)
   -- a revert stores to nothing but its unit, and a refused one to nothing
   pub stores : (form : Form) (st : State) → length st.session.header ≡ 256 → Keeps (InUnit form) st.image (next_revert form st).image
   pub refused : (form : Form) (st : State) → ruled_revert form st ≡ Refused → next_revert form st ≡ st
@@ -148,7 +146,7 @@ onward (Crash left) m = record { state = record { image = left; session = idle }
 abbrev pub Possible : Happening → Moment → Type 0
 Possible (Do c) m = Unit {0}
 Possible (Revert form) m = Unit {0}
-Possible (Crash left) m = (c : Container) → opened m.found ≡ opening.Valid c → AgreesBut (SomeExternal c) c m.found left
+Possible (Crash left) m = (c : Container) → opened m.found ≡ Ok c → AgreesBut (SomeExternal c) c m.found left
 
 -- ---- the versions
 

@@ -1,10 +1,10 @@
 -- Demand 3 of the paper: what every list of calls comes to. The closed statements; proofs/Demand.antt proves them.
-use Rattle.std.specs.Prelude.{◌≡◌, ℕ, ◌≤◌, ◌<◌, Bool, true, false, List, [], ◌∷◌, ◌++◌, ◌⊎◌, ◌↔◌}
+use Rattle.std.specs.Prelude.{◌≡◌, ℕ, ◌≤◌, ◌<◌, Bool, true, false, List, [], ◌∷◌, ◌++◌, ◌⊎◌, ◌↔◌, Result, Ok, Err}
+use Rattle.layout.specs.declared.Refusal.{Refusal}
 use Rattle.std.proofs.Math.Option.{none, some}
 use Rattle.number.specs.Blocks.{blocks, block_of}
 use Rattle.number.specs.Frame.{Keeps}
 use Rattle.layout.specs.declared.Container.{Container}
-use Rattle.layout.specs.declared.Opened.TheVariants as opening
 use Rattle.layout.specs.Headers.{header_range}
 use Rattle.layout.specs.Opening.{opened}
 use Rattle.signatures.specs.Signatures.{signature_range}
@@ -12,8 +12,6 @@ use Rattle.dpfs.specs.Free.{InRange, Free}
 use Rattle.ivfc.specs.Views.{content_of, verified}
 use Rattle.views.specs.Places.{partitions, partition_of, committed_view, space_of}
 use Rattle.views.specs.Protected.{Protected, AgreesBut}
-use Rattle.layout.specs.declared.Outcome.{Outcome}
-use Rattle.layout.specs.declared.Outcome.TheVariants as outcome
 use Rattle.steps.specs.declared.Ending.{Ending}
 use Rattle.steps.specs.declared.Ending.TheVariants as ending
 use Rattle.steps.specs.Calls.{entered, read_committed}
@@ -30,7 +28,7 @@ use Rattle.history.specs.Run.{State, opened_as, perform, ruled, next, after, eve
 -- an image that opens, with a partition p whose level 4 is internal
 pub record Has (image : List ℕ) (p : ℕ) : Type 0 where
   pub container : Container
-  pub opens : opened image ≡ opening.Valid container
+  pub opens : opened image ≡ Ok container
   pub there : p < partitions container
   pub internal : (partition_of container p).difi.external ≡ false
 
@@ -80,10 +78,10 @@ HistoryTheorem = (p : ℕ) (st : State) (start : Start p st) (calls : List Call)
 
 pub record CrashTheorem : Type 0 where
   -- whichever stores have landed, the image that is left answers as the first did, but of the blocks that the list wrote to in place
-  pub answers : (image left : List ℕ) (c : Container) (list : List Event) → opened image ≡ opening.Valid c → AgreesBut (InPlaceOf c list) c image left
+  pub answers : (image left : List ℕ) (c : Container) (list : List Event) → opened image ≡ Ok c → AgreesBut (InPlaceOf c list) c image left
       → SameAnswersBut c list image left
   -- and until a commit is accepted, a list leaves such an image
-  pub stores : (st : State) (calls : List Call) (c : Container) → opened st.image ≡ opening.Valid c → commits (events calls st) ≡ 0
+  pub stores : (st : State) (calls : List Call) (c : Container) → opened st.image ≡ Ok c → commits (events calls st) ≡ 0
       → AgreesBut (InPlaceOf c (events calls st)) c st.image (after calls st).image
 
 -- what a commit stores of its unit: the header, and the signature where it is signed; the bytes from 0x10 to 0xFF are left alone
@@ -94,15 +92,15 @@ InUnit (Signed key signer) i = InRange signature_range i ⊎ InRange header_rang
 -- whatever session value is handed in, no call but commit, plain or signed, changes a byte of 01's list, but for those that it writes in place; none
 -- changes an image that does not open
 pub record SparingTheorem : Type 0 where
-  pub opens : (call : Call) (st : State) (c : Container) → ((form : Form) → call ≡ Commit form → ⊥) → opened st.image ≡ opening.Valid c
+  pub opens : (call : Call) (st : State) (c : Container) → ((form : Form) → call ≡ Commit form → ⊥) → opened st.image ≡ Ok c
       → AgreesBut (InPlaceBy c (Did call (ruled call st))) c st.image (next call st).image
   -- a commit changes nothing but its unit
   pub unit : (form : Form) (st : State) → Keeps (InUnit form) st.image (next (Commit form) st).image
-  pub refused : (call : Call) (st : State) → ((c : Container) → opened st.image ≡ opening.Valid c → ⊥) → (next call st).image ≡ st.image
+  pub refused : (call : Call) (st : State) → ((c : Container) → opened st.image ≡ Ok c → ⊥) → (next call st).image ≡ st.image
   -- what begin's and write's stores ask of their places (crate stores, `store`: to be free in the image's own space) is that the list leaves them out
-  pub free : (image : List ℕ) (c : Container) → opened image ≡ opening.Valid c → (i : ℕ) → Protected c image i ↔ (Free (space_of c) image i → ⊥)
+  pub free : (image : List ℕ) (c : Container) → opened image ≡ Ok c → (i : ℕ) → Protected c image i ↔ (Free (space_of c) image i → ⊥)
   -- and the list stays the same in every image that agrees on it, whatever external level 4s hold: so it is the list of the first image all along
-  pub stays : (image left : List ℕ) (c : Container) → opened image ≡ opening.Valid c → AgreesBut (SomeExternal c) c image left → (i : ℕ) → Protected c left i ↔ Protected c image i
+  pub stays : (image left : List ℕ) (c : Container) → opened image ≡ Ok c → AgreesBut (SomeExternal c) c image left → (i : ℕ) → Protected c left i ↔ Protected c image i
 
 -- ---- landing
 
@@ -122,7 +120,7 @@ pub record Landed (p : ℕ) (calls : List Event) (first last : List ℕ) (old : 
   pub written : (i value : ℕ) → last_value p i calls ≡ some value → byte_in new i ≡ value
   pub verifies : (i value : ℕ) → last_value p i calls ≡ some value → verified_in new (block_of (level_of_there old) i) ≡ true
   pub reads : (i value any : ℕ) → last_value p i calls ≡ some value
-      → read_committed last p i (any ∷ []) ≡ record { outcome = outcome.Accepted; buffer = value ∷ [] }
+      → read_committed last p i (any ∷ []) ≡ record { outcome = Ok tt; buffer = value ∷ [] }
   -- every other byte of level 4 is as before, and every other of its blocks is verified exactly if it was before
   pub others : (i : ℕ) → i < (level_of_there old).size → last_value p i calls ≡ none → byte_in new i ≡ byte_in old i
   pub other_blocks : (b : ℕ) → b < blocks (level_of_there old) → ((i : ℕ) → block_of (level_of_there old) i ≡ b → last_value p i calls ≡ none)
@@ -140,29 +138,29 @@ pub record LandingTheorem : Type 0 where
 -- ---- progress: such lists get on, so that the statements above are not empty
 
 -- how a call ends whose last check has this outcome
-abbrev pub ended_by : Outcome → Ending
-ended_by outcome.Accepted = ending.Accepted
-ended_by (outcome.Refused r) = ending.Refused r
+abbrev pub ended_by : Result (Unit {0}) Refusal → Ending
+ended_by (Ok tt) = ending.Accepted
+ended_by (Err r) = ending.Refused r
 
 -- after a list 14 never comes up, and 13 alone stops a begin, a plain commit and an abandon. A begun session enters, so that its own checks alone stop
 -- a staged read and a write; and a signed commit, 15
 pub record Progress (st : State) : Type 0 where
   pub idle : st.session.begun ≡ false → ruled Begin st ≡ Accepted
   pub begun : st.session.begun ≡ true → (ruled (Commit Plain) st ≡ Accepted) × (ruled Abandon st ≡ Accepted)
-  pub enters : st.session.begun ≡ true → (c : Container) × (entered st.image st.session ≡ opening.Valid c)
+  pub enters : st.session.begun ≡ true → (c : Container) × (entered st.image st.session ≡ Ok c)
   pub signs : (key : List ℕ) (signer : Signer) → st.session.begun ≡ true
       → (perform (Commit (Signed key signer)) st).answer ≡ Stepping (ended_by (outcome_of (signed st.image signer)))
 
 -- for every list, on an image that opens, with an idle session first
 abbrev pub ProgressTheorem : Type 0
-ProgressTheorem = (st : State) (c : Container) → opened st.image ≡ opening.Valid c → st.session.begun ≡ false → (calls : List Call) → Progress (after calls st)
+ProgressTheorem = (st : State) (c : Container) → opened st.image ≡ Ok c → st.session.begun ≡ false → (calls : List Call) → Progress (after calls st)
 
 -- ---- signing
 
 -- after an accepted signed commit, opening under the same key and signer is accepted
 pub record SigningTheorem : Type 0 where
   pub opens : (st : State) (key : List ℕ) (signer : Signer) → ruled (Commit (Signed key signer)) st ≡ Accepted
-      → (c : Container) × (opened_as (Signed key signer) (next (Commit (Signed key signer)) st).image ≡ opening.Valid c)
+      → (c : Container) × (opened_as (Signed key signer) (next (Commit (Signed key signer)) st).image ≡ Ok c)
 
 -- ---- demand 3
 

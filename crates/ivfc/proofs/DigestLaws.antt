@@ -9,7 +9,7 @@ use native.Mathlib.Nat.{add-zero, add-mul, suc-mul, mul-one, mul-le-mul_left, mu
 use lib.Dec.{leb}
 use lib.Pow.{pow-lt, pow-add}
 use lib.ListN.{length, take, drop, length-append, length-drop}
-use lib.Seq.{length-take-le, take_at, drop_at, take_all, take-append-le, drop-append-le, sets, sets-eq}
+use lib.Seq.{length-take-le, take_at, drop_at, take_all, take-append-le, drop-append-le}
 use borrow.Author.Tests.{leb-true}
 use Rattle.number.specs.declared.Level.{Level}
 use Rattle.number.specs.Blocks.{block_size, blocks, block_length}
@@ -136,14 +136,13 @@ size_even l h = go (dec_lt l.log 6)
 
 -- ---- one digest alone
 
--- stored at the front of 256 bytes, it is the row of one
-pub one_digest : (l : Level) (f : ℕ → ℕ) (b : ℕ) (digest before after : List ℕ) → length before ≡ 256 → digest ≡ sha256 (block l f b)
-    → after ≡ sets before 0 digest → take 32 after ≡ digests l f b 1
+-- at the front of 256 bytes, it is the row of one
+pub one_digest : (l : Level) (f : ℕ → ℕ) (b : ℕ) (digest rest : List ℕ) → length rest ≡ 224 → digest ≡ sha256 (block l f b)
+    → (length (digest ++ rest) ≡ 256) × (take 32 (digest ++ rest) ≡ digests l f b 1)
 unfolding digests
-one_digest l f b digest before after n e put =
+one_digest l f b digest rest n e =
     let d : length digest ≡ 32 = ap length e ∙ length_sha256 (block l f b) in
-    ap (take 32) (put ∙ sets-eq digest before 0 (omega arith)) ∙ take_at digest (drop (0 + length digest) before) 32 d
-    ∙ e ∙ ap (λ (y : ℕ). sha256 (block l f y)) (sym (add-zero b))
+    (omega (arith, length-append digest rest), take_at digest rest 32 d ∙ e ∙ ap (λ (y : ℕ). sha256 (block l f y)) (sym (add-zero b)))
 
 -- ---- eight digests, made side by side, of a piece that holds the eight whole blocks from b on
 

@@ -7,3 +7,4 @@ mod MemoryLaws
 pub mod RowLaws
 pub mod DigestLaws
 mod FeedLaws
+pub mod ReaderLaws

@@ -27,18 +27,6 @@ module _ (view : View) (i : ℕ) where
   unfolding level_of
   level_zero e = rw e refl
 
-  pub level_one : i ≡ 1 → view.level1 ≡ level_of view i
-  unfolding level_of
-  level_one e = rw e refl
-
-  pub level_two : i ≡ 2 → view.level2 ≡ level_of view i
-  unfolding level_of
-  level_two e = rw e refl
-
-  pub level_three : i ≡ 3 → view.level3 ≡ level_of view i
-  unfolding level_of
-  level_three e = rw e refl
-
 pub level_rest : (view : View) (i : ℕ) → (i ≡ 0 → ⊥) → (i ≡ 1 → ⊥) → (i ≡ 2 → ⊥) → (i ≡ 3 → ⊥) → view.level4 ≡ level_of view i
 unfolding level_of
 level_rest view zero a b c d = absurd (a refl)

@@ -1,12 +1,11 @@
 -- What the functions of this crate ask of a view; that of an image that opens keeps to it.
-use Rattle.std.specs.Prelude.{◌≡◌, List, true, false, ℕ, zero, suc, ◌+◌, ◌-◌, ◌*◌, ◌≤◌, ◌<◌}
+use Rattle.std.specs.Prelude.{◌≡◌, List, true, false, ℕ, zero, suc, ◌+◌, ◌-◌, ◌*◌, ◌≤◌, ◌<◌, get_or, Option, None, IfSome}
 use Rattle.number.specs.declared.Level.{Level}
 use Rattle.number.specs.Ranges.{Apart, level_range}
 use Rattle.number.specs.Blocks.{blocks}
 use Rattle.dpfs.specs.Rules.{WellPlaced}
 use Rattle.ivfc.specs.declared.View.{View}
 use Rattle.ivfc.specs.declared.Seen.{Seen}
-use Rattle.ivfc.specs.declared.Memory.{Memory}
 use Rattle.ivfc.specs.Blocks.{parent}
 use Rattle.ivfc.specs.Verified.{first_not}
 use Rattle.ivfc.specs.Views.{level_of, verified}
@@ -41,18 +40,12 @@ abbrev pub first_unverified : View → List ℕ → (i first last : ℕ) → ℕ
 first_unverified view image i first last = first_not (verified view image i) first (suc last - first)
 
 -- what is remembered of level i, if anything is: where its verified blocks from `first` on end, of those up to `last`
-abbrev pub Recalls : View → List ℕ → (i last : ℕ) → Seen → Type 0
-Recalls view image i last seen = seen.known ≡ true → seen.end ≡ first_unverified view image i seen.first last
+abbrev pub Recalls : View → List ℕ → (i last : ℕ) → Option Seen → Type 0
+Recalls view image i last seen = IfSome seen (λ s. s.end ≡ first_unverified view image i s.first last)
 
--- what is remembered of level i + 1
-abbrev pub seen_of : Memory → (i : ℕ) → Seen
-seen_of memory zero = memory.level1
-seen_of memory (suc zero) = memory.level2
-seen_of memory (suc (suc zero)) = memory.level3
-seen_of memory (suc (suc (suc i))) = memory.level4
-
--- what is remembered of the levels 1 to i, where `last` is the last block of level i that is asked for, and its parent that of the level above
-unfoldable pub Remembers : View → List ℕ → (i last : ℕ) → Memory → Type 0
+-- what is remembered of the levels 1 to i, each at its place, where `last` is the last block of level i that is asked for, and its parent that of the
+-- level above
+unfoldable pub Remembers : View → List ℕ → (i last : ℕ) → List (Option Seen) → Type 0
 Remembers view image zero last memory = Unit {0}
 Remembers view image (suc i) last memory =
-    Recalls view image (suc i) last (seen_of memory i) × Remembers view image i (parent (level_of view i) last) memory
+    Recalls view image (suc i) last (get_or memory i None) × Remembers view image i (parent (level_of view i) last) memory

@@ -7,14 +7,12 @@ ghost use Rattle.sha256.specs.Running.{Holds, longest};
 ghost use Rattle.ivfc.specs.Blocks.{block};
 ghost use Rattle.ivfc.specs.Rows.{digests};
 ghost use Rattle.ivfc.specs.Views.{level_of, content_of};
-ghost use Rattle.ivfc.specs.Rules.{ViewRules};
 
-use super::gathering::{level_of, run_of};
-use super::{Digests, View};
+use super::gathering::level_of;
+use super::{Digests, Reader};
 use lanes::digest_eight;
 use number::Level;
 use number::blocks::{block_length, block_size};
-use number::runs::copy_into;
 use sha256::running::{Running, finish, start, update};
 
 // How many blocks are hashed side by side.
@@ -24,23 +22,6 @@ const HASHED: u64 = 64;
 // How many zeros are fed at once: a block of SHA-256.
 const ZEROS: usize = 64;
 
-// Feeds the bytes of level i from x up to end to a running digest, run by run.
-fn feed_level(running: Running, view: View, image: &[u8], i: u64, x: u64, end: u64) -> Running
-    requires { (ViewRules view (length image.now)) × (i ≤ 4) × (x ≤ end) × (end ≤ (level_of view i).size) × (running.total + (end - x) ≤ longest) }
-    ensures total_value { result.total ≡ running.total + (end - x) }
-    ensures by_index { (m : List ℕ) → Holds running m → Holds result (m ++ bytes (content_of view image.now i) x (end - x)) }
-{
-    let mut fed = running;
-    let mut at = x;
-    while at < end {
-        let piece = run_of(view, image, i, at, end);
-        let next = update(fed, piece);
-        fed = next;
-        at += piece.len() as u64;
-    }
-    fed
-}
-
 // Feeds n zeros to a running digest.
 fn feed_zeros(running: Running, n: u64) -> Running
     requires { running.total + n ≤ longest }
@@ -48,27 +29,11 @@ fn feed_zeros(running: Running, n: u64) -> Running
 {
     let zeros = [0u8; ZEROS];
     let mut fed = running;
-    let mut left = n;
-    while ZEROS as u64 <= left {
-        let next = update(fed, &zeros);
-        fed = next;
-        left -= ZEROS as u64;
+    for _k in 0..n / ZEROS as u64 {
+        fed = update(fed, &zeros);
     }
-    let rest = left as usize;
+    let rest = n as usize % ZEROS;
     update(fed, &zeros[..rest])
-}
-
-// The digest of block b of level i: of its bytes, followed by zeros up to the block size.
-pub fn digest_block(view: View, image: &[u8], i: u64, b: u64) -> [u8; 32]
-    requires { (ViewRules view (length image.now)) × (i ≤ 4) × (b < blocks (level_of view i)) }
-    ensures { result ≡ sha256 (block (level_of view i) (content_of view image.now i) b) }
-{
-    let level = level_of(view, i);
-    let unit = block_size(level);
-    let own = block_length(level, b);
-    let x = b * unit;
-    let fed = feed_level(start(), view, image, i, x, x + own);
-    finish(feed_zeros(fed, unit - own))
 }
 
 // The eight blocks from b on come before end, are whole, and can be hashed side by side.
@@ -80,35 +45,67 @@ fn eight_whole(level: Level, b: u64, end: u64) -> bool
     (HASHED <= unit) & ((b + LANES <= end) & ((b + LANES) * unit <= level.size))
 }
 
-// The digest of block b alone.
-fn digest_one(view: View, image: &[u8], i: u64, b: u64) -> Digests
-    requires { (ViewRules view (length image.now)) × (i ≤ 4) × (b < blocks (level_of view i)) }
-    ensures { (result.count ≡ 1) × (length result.bytes ≡ 256) × (take 32 result.bytes ≡ digests (level_of view i) (content_of view image.now i) b 1) }
-{
-    let digest = digest_block(view, image, i, b);
-    let mut bytes = [0u8; 256];
-    copy_into(&mut bytes, 0, &digest);
-    Digests { count: 1, bytes }
-}
-
-// The digests of blocks of level i from b on: of eight that come before end and lie whole in one piece of the image, side by side, else of
-// b alone.
-pub fn digests_from(view: View, image: &[u8], i: u64, b: u64, end: u64) -> Digests
-    requires { (ViewRules view (length image.now)) × (i ≤ 4) × (b < end) × (end ≤ blocks (level_of view i)) }
-    ensures count_nonzero { (0 < result.count) × (result.count ≤ 8) × (b + result.count ≤ end) × (length result.bytes ≡ 256) }
-    ensures bytes_value { take (32 * result.count) result.bytes ≡ digests (level_of view i) (content_of view image.now i) b result.count }
-{
-    let level = level_of(view, i);
-    if eight_whole(level, b, end) {
-        let unit = block_size(level);
-        let piece = run_of(view, image, i, b * unit, (b + LANES) * unit);
-        if piece.len() as u64 == LANES * unit {
-            let bytes = digest_eight(piece, unit as usize);
-            return Digests {
-                count: LANES,
-                bytes,
-            };
+impl Reader<'_> {
+    // Feeds the bytes of level i from x up to end to a running digest, run by run.
+    fn feed_level(self, running: Running, i: u64, x: u64, end: u64) -> Running
+        requires { (i ≤ 4) × (x ≤ end) × (end ≤ (level_of self.view i).size) × (running.total + (end - x) ≤ longest) }
+        ensures total_value { result.total ≡ running.total + (end - x) }
+        ensures by_index { (m : List ℕ) → Holds running m → Holds result (m ++ bytes (content_of self.entry.view self.entry.image.now i) x (end - x)) }
+    {
+        let mut fed = running;
+        let mut at = x;
+        // A `while`: each turn goes on by as many bytes as stand in one piece.
+        while at < end {
+            let piece = self.run_of(i, at, end);
+            fed = update(fed, piece);
+            at += piece.len() as u64;
         }
+        fed
     }
-    digest_one(view, image, i, b)
+
+    // The digest of block b of level i: of its bytes, followed by zeros up to the block size.
+    pub fn digest_block(self, i: u64, b: u64) -> [u8; 32]
+        requires { (i ≤ 4) × (b < blocks (level_of self.view i)) }
+        ensures { result ≡ sha256 (block (level_of self.entry.view i) (content_of self.entry.view self.entry.image.now i) b) }
+    {
+        let level = level_of(self.view, i);
+        let unit = block_size(level);
+        let own = block_length(level, b);
+        let x = b * unit;
+        let fed = self.feed_level(start(), i, x, x + own);
+        finish(feed_zeros(fed, unit - own))
+    }
+
+    // The digest of block b alone.
+    fn digest_one(self, i: u64, b: u64) -> Digests
+        requires { (i ≤ 4) × (b < blocks (level_of self.view i)) }
+        ensures { (result.count ≡ 1) × (length result.bytes ≡ 256) × (take 32 result.bytes ≡ digests (level_of self.entry.view i) (content_of self.entry.view self.entry.image.now i) b 1) }
+    {
+        let digest = self.digest_block(i, b);
+        let mut bytes = [0u8; 256];
+        bytes[..32].copy_from_slice(&digest);
+        Digests { count: 1, bytes }
+    }
+
+    // The digests of blocks of level i from b on: of eight that come before end and lie whole in one piece of the image, side by side, else of
+    // b alone.
+    pub fn digests_from(self, i: u64, b: u64, end: u64) -> Digests
+        requires { (i ≤ 4) × (b < end) × (end ≤ blocks (level_of self.view i)) }
+        ensures count_nonzero { (0 < result.count) × (result.count ≤ 8) × (b + result.count ≤ end) × (length result.bytes ≡ 256) }
+        ensures bytes_value { take (32 * result.count) result.bytes ≡ digests (level_of self.entry.view i) (content_of self.entry.view self.entry.image.now i) b result.count }
+    {
+        let level = level_of(self.view, i);
+        if eight_whole(level, b, end) {
+            let unit = block_size(level);
+            let piece = self.run_of(i, b * unit, (b + LANES) * unit);
+            if piece.len() as u64 == LANES * unit {
+                let bytes = digest_eight(piece, unit as usize);
+                return Digests {
+                    count: LANES,
+                    bytes,
+                };
+            }
+        }
+        self.digest_one(i, b)
+    }
 }

@@ -1,6 +1,9 @@
 // The hash tree of a partition: which blocks are verified, and the bytes of a level.
 #![tactic(auto)]
 
+ghost use Rattle.std.specs.Prelude.{length};
+ghost use Rattle.ivfc.specs.Rules.{ViewRules};
+
 use dpfs::Tree;
 use number::{Level, Range};
 
@@ -27,7 +30,15 @@ pub struct View {
     pub outside: u64,
 }
 
-// The digests of blocks in a row: so many of 32 bytes each, at the front of `bytes`.
+// A view that is read: with the image that it is of, in which it lies as the rules say.
+#[derive(Clone, Copy)]
+pub struct Reader<'a> {
+    pub view: View,
+    pub image: &'a [u8],
+    pub ghost rules: { ∥ ViewRules view (length image.now) ∥₁ },
+}
+
+// The digests of blocks in a row: so many of 32 bytes each, at the front of `bytes`. (A count beside room for eight: there is no heap.)
 #[derive(Clone, Copy)]
 pub struct Digests {
     pub count: u64,
@@ -35,7 +46,7 @@ pub struct Digests {
 }
 
 // How blocks in a row compare with their entries: how many were hashed, how many match before the first that does not, how many match, and
-// which, at the front of `each`.
+// which, at the front of `each`. (A count beside room for eight: there is no heap.)
 #[derive(Clone, Copy)]
 pub struct Compared {
     pub hashed: u64,
@@ -47,25 +58,8 @@ pub struct Compared {
 // What is remembered of a level: its blocks from `first` on are verified up to `end`, which is not, or is past the last that is asked for.
 #[derive(Clone, Copy)]
 pub struct Seen {
-    pub known: bool,
     pub first: u64,
     pub end: u64,
-}
-
-// What is remembered of each level, so that no hash block is hashed again for the next blocks below it.
-#[derive(Clone, Copy)]
-pub struct Memory {
-    pub level1: Seen,
-    pub level2: Seen,
-    pub level3: Seen,
-    pub level4: Seen,
-}
-
-// Where the verified blocks end, with what was learnt on the way.
-#[derive(Clone, Copy)]
-pub struct Judged {
-    pub end: u64,
-    pub memory: Memory,
 }
 
 // Whether each of two blocks is verified.

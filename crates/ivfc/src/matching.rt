@@ -4,11 +4,8 @@ ghost use Rattle.number.specs.Blocks.{blocks};
 ghost use Rattle.ivfc.specs.Verified.{zero_entry, vouches, first_not, count_of};
 ghost use Rattle.ivfc.specs.Rows.{agree};
 ghost use Rattle.ivfc.specs.Views.{level_of, matches};
-ghost use Rattle.ivfc.specs.Rules.{ViewRules};
 
-use super::gathering::gather;
-use super::hashing::digests_from;
-use super::{Compared, View};
+use super::{Compared, Reader};
 use number::runs::same_bytes;
 
 // The size of an entry, to count in slices.
@@ -18,8 +15,7 @@ const ENTRY: usize = super::ENTRY as usize;
 pub fn zero_entry(entry: &[u8]) -> bool
     ensures { result ≡ zero_entry entry.now }
 {
-    let zeros = [0u8; ENTRY];
-    same_bytes(entry, &zeros)
+    same_bytes(entry, &[0; ENTRY])
 }
 
 // An entry vouches for a block with this digest.
@@ -38,15 +34,13 @@ fn compare(digests: &[u8], entries: &[u8], n: usize) -> Compared
     let mut before = 0;
     let mut matching = 0;
     let mut each = [false; 8];
-    let mut j = 0;
-    while j < n {
+    for j in 0..n {
         let at = j * ENTRY;
         let end = at + ENTRY;
         let same = entry_vouches(&digests[at..end], &entries[at..end]);
         before += (same & (before == j as u64)) as u64;
         matching += same as u64;
         each[j] = same;
-        j += 1;
     }
     Compared {
         hashed: n as u64,
@@ -56,56 +50,60 @@ fn compare(digests: &[u8], entries: &[u8], n: usize) -> Compared
     }
 }
 
-// Hashes some blocks of level i from b on, before end, and compares them with their entries.
-pub fn compare_from(view: View, image: &[u8], i: u64, b: u64, end: u64) -> Compared
-    requires { (ViewRules view (length image.now)) × (1 ≤ i) × (i ≤ 4) × (b < end) × (end ≤ blocks (level_of view i)) }
-    ensures hashed_nonzero { (0 < result.hashed) × (b + result.hashed ≤ end) × (b + result.before ≡ first_not (matches view image.now i) b result.hashed) × (result.hashed ≤ 8) × (length result.each ≡ 8) × ((j : ℕ) → j < result.hashed → get_or result.each j false ≡ matches view image.now i (b + j)) }
-    ensures matching_value { result.matching ≡ count_of (λ (j : ℕ). matches view image.now i (b + j)) result.hashed }
-{
-    let digests = digests_from(view, image, i, b, end);
-    let n = digests.count as usize;
-    let size = n * ENTRY;
-    let hashes = digests.bytes;
-    let mut entries = [0u8; 256];
-    gather(view, image, i - 1, b * ENTRY as u64, &mut entries[..size]);
-    compare(&hashes[..size], &entries[..size], n)
-}
+impl Reader<'_> {
+    // Hashes some blocks of level i from b on, before end, and compares them with their entries.
+    pub fn compare_from(self, i: u64, b: u64, end: u64) -> Compared
+        requires { (1 ≤ i) × (i ≤ 4) × (b < end) × (end ≤ blocks (level_of self.view i)) }
+        ensures hashed_nonzero { (0 < result.hashed) × (b + result.hashed ≤ end) × (b + result.before ≡ first_not (matches self.entry.view self.entry.image.now i) b result.hashed) × (result.hashed ≤ 8) × (length result.each ≡ 8) × ((j : ℕ) → j < result.hashed → get_or result.each j false ≡ matches self.entry.view self.entry.image.now i (b + j)) }
+        ensures matching_value { result.matching ≡ count_of (λ (j : ℕ). matches self.entry.view self.entry.image.now i (b + j)) result.hashed }
+    {
+        let digests = self.digests_from(i, b, end);
+        let n = digests.count as usize;
+        let size = n * ENTRY;
+        let hashes = digests.bytes;
+        let mut entries = [0u8; 256];
+        self.gather(i - 1, b * ENTRY as u64, &mut entries[..size]);
+        compare(&hashes[..size], &entries[..size], n)
+    }
 
-// The first block of level i from `first` on, before end, whose entry does not match, else end.
-pub fn first_mismatch(view: View, image: &[u8], i: u64, first: u64, end: u64) -> u64
-    requires { (ViewRules view (length image.now)) × (1 ≤ i) × (i ≤ 4) × (first ≤ end) × (end ≤ blocks (level_of view i)) }
-    ensures { result ≡ first_not (matches view image.now i) first (end - first) }
-{
-    let mut b = first;
-    while b < end {
-        let compared = compare_from(view, image, i, b, end);
-        if compared.before < compared.hashed {
-            return b + compared.before;
+    // The first block of level i from `first` on, before end, whose entry does not match, else end.
+    pub fn first_mismatch(self, i: u64, first: u64, end: u64) -> u64
+        requires { (1 ≤ i) × (i ≤ 4) × (first ≤ end) × (end ≤ blocks (level_of self.view i)) }
+        ensures { result ≡ first_not (matches self.entry.view self.entry.image.now i) first (end - first) }
+    {
+        let mut b = first;
+        // A `while`: each turn goes on by as many blocks as were hashed.
+        while b < end {
+            let compared = self.compare_from(i, b, end);
+            if compared.before < compared.hashed {
+                return b + compared.before;
+            }
+            b += compared.hashed;
         }
-        b += compared.hashed;
+        b
     }
-    b
-}
 
-// How many blocks of level i from `first` on, before end, match their entries.
-pub fn count_matching(view: View, image: &[u8], i: u64, first: u64, end: u64) -> u64
-    requires { (ViewRules view (length image.now)) × (1 ≤ i) × (i ≤ 4) × (first ≤ end) × (end ≤ blocks (level_of view i)) }
-    ensures { result ≡ count_of (λ (j : ℕ). matches view image.now i (first + j)) (end - first) }
-{
-    let mut count = 0;
-    let mut b = first;
-    while b < end {
-        let compared = compare_from(view, image, i, b, end);
-        count += compared.matching;
-        b += compared.hashed;
+    // How many blocks of level i from `first` on, before end, match their entries.
+    pub fn count_matching(self, i: u64, first: u64, end: u64) -> u64
+        requires { (1 ≤ i) × (i ≤ 4) × (first ≤ end) × (end ≤ blocks (level_of self.view i)) }
+        ensures { result ≡ count_of (λ (j : ℕ). matches self.entry.view self.entry.image.now i (first + j)) (end - first) }
+    {
+        let mut count = 0;
+        let mut b = first;
+        // A `while`: each turn goes on by as many blocks as were hashed.
+        while b < end {
+            let compared = self.compare_from(i, b, end);
+            count += compared.matching;
+            b += compared.hashed;
+        }
+        count
     }
-    count
-}
 
-// The entry of block b of level i, one level higher, matches.
-pub fn block_matches(view: View, image: &[u8], i: u64, b: u64) -> bool
-    requires { (ViewRules view (length image.now)) × (1 ≤ i) × (i ≤ 4) × (b < blocks (level_of view i)) }
-    ensures { result ≡ matches view image.now i b }
-{
-    b < first_mismatch(view, image, i, b, b + 1)
+    // The entry of block b of level i, one level higher, matches.
+    pub fn block_matches(self, i: u64, b: u64) -> bool
+        requires { (1 ≤ i) × (i ≤ 4) × (b < blocks (level_of self.view i)) }
+        ensures { result ≡ matches self.entry.view self.entry.image.now i b }
+    {
+        b < self.first_mismatch(i, b, b + 1)
+    }
 }

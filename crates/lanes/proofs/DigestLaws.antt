@@ -1,11 +1,12 @@
 -- The digests of messages that stand one after another: the lanes' hash values make them. Assumes nothing.
 use mathlib.Core.Path.{◌≡◌, refl, ap, ap₂, ◌∙◌}
-use mathlib.Core.List.{List, [], ◌∷◌, ◌++◌, append_assoc, append-nil}
-use Prim.Native.Nat.{ℕ, zero, suc, ◌+◌, ◌*◌, ◌/◌, ◌%◌, ◌^◌, ◌≤◌, ◌<◌}
+use mathlib.Core.List.{List, ◌++◌}
+use Prim.Native.Nat.{ℕ, zero, suc, ◌+◌, ◌-◌, ◌*◌, ◌/◌, ◌%◌, ◌^◌, ◌≤◌, ◌<◌}
 use native.Mathlib.Numerals.{add-one}
 use native.Mathlib.Omega.{arith}
-use lib.ListN.{length, get_or, take, set, length-append}
-use lib.Seq.{take-suc, take-suc-set}
+use lib.ListN.{length, take, length-append, length-take, length-drop}
+use borrow.Rule.Slice.PartMut.{put_mid}
+use Rattle.std.proofs.lemmas.Slice.{take-put_mid}
 use Rattle.sha256.specs.Sha256.{H₀, padding, padded, compress, hashed, digest_bytes, digest_from, sha256}
 use Rattle.lanes.specs.Digests.{message, digests}
 use Rattle.lanes.specs.Flat.{lane_block, hash_of, digests_of}
@@ -13,23 +14,15 @@ use Rattle.lanes.proofs.BlockLaws.{message_length, length_padding}
 
 -- ---- the digests' bytes, as the code writes them
 
-pub put_none : (out digest : List ℕ) (at : ℕ) → take (at + 0) out ≡ take at out ++ take 0 digest
-put_none out digest at =
-    let e : at + 0 ≡ at = omega arith in
-    rw (e, append-nil)
-
-pub put_more : (before out digest : List ℕ) (at i v : ℕ) → at + i < length out → i < length digest → take (at + i) out ≡ take at before ++ take i digest
-    → v ≡ get_or digest i 0 → take (at + (i + 1)) (set out (at + i) v) ≡ take at before ++ take (i + 1) digest
-put_more before out digest at i v h k e ev =
-    let p : at + (i + 1) ≡ suc (at + i) = omega arith in
-    rw (p, take-suc-set out (at + i) v h, e, ev, add-one, take-suc digest i 0 k) (append_assoc (take at before) (take i digest) (get_or digest i 0 ∷ []))
-
-pub digests_more : (a e before out digest : List ℕ) (l : ℕ) → take (l * 32) before ≡ digests_of a e l → digest ≡ digest_bytes (hash_of a e l)
-    → take (l * 32 + 32) out ≡ take (l * 32) before ++ digest → take ((l + 1) * 32) out ≡ digests_of a e (l + 1)
-unfolding digests_of
-digests_more a e before out digest l eb ed eo =
-    let p : (l + 1) * 32 ≡ l * 32 + 32 = omega arith in
-    rw (p, add-one) (eo ∙ ap₂ (λ (x y : List ℕ). x ++ y) eb ed)
+pub digests_more : (a e out ys : List ℕ) (l : ℕ) → length out ≡ 256 → l < 8 → take (l * 32) out ≡ digests_of a e l → ys ≡ digest_bytes (hash_of a e l)
+    → (length (put_mid (l * 32) (l * 32 + 32 - l * 32) out ys) ≡ 256) × (take ((l + 1) * 32) (put_mid (l * 32) (l * 32 + 32 - l * 32) out ys) ≡ digests_of a e (l + 1))
+unfolding digests_of digest_bytes
+digests_more a e out ys l lo h eo ey =
+    let n : length ys ≡ 32 = ap length ey in (
+      simp (length-append, length-take, length-drop) (omega arith),
+      take-put_mid (l * 32) (l * 32 + 32 - l * 32) out ys ((l + 1) * 32) (omega arith) (omega arith)
+          ∙ rw add-one (ap₂ (λ (x y : List ℕ). x ++ y) eo ey),
+    )
 
 -- ---- the hash value and the digest of a lane
 

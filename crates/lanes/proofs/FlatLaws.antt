@@ -2,7 +2,6 @@
 use mathlib.Core.Path.{◌≡◌, refl, sym, ap, ap₂, ◌∙◌}
 use mathlib.Core.List.{List}
 use Prim.Native.Nat.{ℕ, ◌+◌, ◌/◌, ◌^◌, ◌≤◌, ◌<◌}
-use native.Mathlib.Nat.{not-suc-le-zero}
 use native.Mathlib.Omega.{arith}
 use borrow.Author.Count.{below_more}
 use lib.Bits.{bit_and, bit_xor, xor_shr, xor_zero_l}
@@ -11,7 +10,7 @@ use lib.Seq.{get_or-set_same, get_or-set_other}
 use Rattle.sha256.specs.Word.{◌⊞◌, Σ₀, σ₀, σ₁}
 use Rattle.sha256.specs.Sha256.{T₁, T₂}
 use Rattle.sha256.proofs.BitLaws.{maj_short}
-use Rattle.lanes.specs.Flat.{Agree, next_word, Scheduled, temp₁, temp₂, Turned, Changed, Reached, Folded}
+use Rattle.lanes.specs.Flat.{Agree, next_word, Scheduled, temp₁, temp₂, Turned, Changed, Reached}
 
 -- ---- a list that is filled from the front
 
@@ -58,9 +57,6 @@ temp₂-set : (a : List ℕ) (i v j : ℕ) → j ≤ i → temp₂ (set a (i + 3
 unfolding temp₂
 temp₂-set a i v j h =
     simp (below a (i + 32) v (j + 24) (omega arith), below a (i + 32) v (j + 16) (omega arith), below a (i + 32) v (j + 8) (omega arith))
-
-turned_none : (constants words a e : List ℕ) → Turned constants words a e 0
-turned_none constants words a e = record { of_a = λ j h. absurd (not-suc-le-zero h); of_e = λ j h. absurd (not-suc-le-zero h) }
 
 -- one place more, with the two words that the code makes of x and y
 module _ (constants words a e : List ℕ) (i x y next-a next-e : ℕ) (turned : Turned constants words a e i) where
@@ -141,19 +137,6 @@ temp₂-by x y z change before hx hy hb ec eb =
 
 -- ---- the rounds and the differences together
 
-pub reached_none : (constants words a e changes : List ℕ) → length a ≡ 544 → length e ≡ 544 → length changes ≡ 544 → Changed a changes 8
-    → Reached constants words a e a e changes 0
-reached_none constants words a e changes ha he hc changed =
-    record {
-      size_a = ha;
-      size_e = he;
-      size_changes = hc;
-      kept_a = λ j h. refl;
-      kept_e = λ j h. refl;
-      turned = turned_none constants words a e;
-      changed = changed;
-    }
-
 -- one word more of the schedule, past those that the rounds have read
 pub reached_words : (constants words words₁ a₀ e₀ a e changes : List ℕ) (i : ℕ) → Agree words words₁ (i + 128)
     → Reached constants words a₀ e₀ a e changes i → Reached constants words₁ a₀ e₀ a e changes i
@@ -193,12 +176,3 @@ reached_more constants words a₀ e₀ a e changes i x y next-a next-e h ex ey e
 -- what the sums have not reached yet
 abbrev pub Left : List ℕ → List ℕ → (reached : ℕ) → Type 0
 Left before x reached = (j : ℕ) → reached ≤ j → get_or x j 0 ≡ get_or before j 0
-
-pub left_more : (before x : List ℕ) (i v : ℕ) → Left before x i → Left before (set x i v) (i + 1)
-left_more before x i v left j h = get_or-set_other x i j v 0 (λ e. omega arith) ∙ left j (omega arith)
-
-pub folded_more : (before x : List ℕ) (i v : ℕ) → i < length x → Left before x i → Folded before x i → v ≡ get_or x (i + 512) 0 ⊞ get_or x i 0
-    → Folded before (set x i v) (i + 1)
-folded_more before x i v h left folded e =
-    filled_more (λ (j : ℕ). get_or before (j + 512) 0 ⊞ get_or before j 0) x i v h folded
-    (e ∙ ap₂ (λ (u w : ℕ). u ⊞ w) (left (i + 512) (omega arith)) (left i (omega arith)))

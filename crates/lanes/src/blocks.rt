@@ -3,13 +3,11 @@ ghost use Rattle.std.specs.Prelude.{◌≡◌, ◌+◌, ◌*◌, ◌/◌, ◌%�
 ghost use Rattle.sha256.specs.Sha256 as Spec;
 ghost use Rattle.lanes.specs.Flat.{word_at, Loaded, lane_block};
 
-use sha256::word::word_of;
-
 fn word_at(bytes: &[u8], at: usize) -> u32
     requires { at + 3 < length bytes.now }
     ensures { result ≡ word_at bytes.now at }
 {
-    word_of(bytes[at], bytes[at + 1], bytes[at + 2], bytes[at + 3])
+    u32::from_be_bytes([bytes[at], bytes[at + 1], bytes[at + 2], bytes[at + 3]])
 }
 
 // A row of words, one of every lane: those of one place in block b of each message. So few that the compiler unrolls the loop.
@@ -19,10 +17,8 @@ fn load_row(messages: &[u8], n: usize, b: usize, row: usize, words: &mut [u32; 5
     ensures loaded { Loaded words.old (lane_block messages.now n b) (row * 8) → Loaded words.new (lane_block messages.now n b) (row * 8 + 8) }
 {
     let at = b * 64 + row * 4;
-    let mut lane = 0;
-    while lane < 8 {
+    for lane in 0..8 {
         words[row * 8 + lane] = word_at(messages, lane * n + at);
-        lane += 1;
     }
 }
 
@@ -31,10 +27,8 @@ fn load(messages: &[u8], n: usize, b: usize, words: &mut [u32; 512])
     requires { (length messages.now ≡ 8 * n) × (n % 64 ≡ 0) × (n < 2 ^ 29) × (b < n / 64) × (length words.old ≡ 512) }
     ensures { (length words.new ≡ 512) × (Loaded words.new (lane_block messages.now n b) 128) }
 {
-    let mut row = 0;
-    while row < 16 {
+    for row in 0..16 {
         load_row(messages, n, b, row, words);
-        row += 1;
     }
 }
 
@@ -57,10 +51,8 @@ fn pad(n: usize, words: &mut [u32; 512])
     requires { (n % 64 ≡ 0) × (n < 2 ^ 29) × (length words.old ≡ 512) }
     ensures { (length words.new ≡ 512) × (Loaded words.new (λ _. Spec.padding n) 128) }
 {
-    let mut i = 0;
-    while i < 128 {
+    for i in 0..128 {
         words[i] = padding_word(n, i / 8);
-        i += 1;
     }
 }
 

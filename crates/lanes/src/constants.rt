@@ -19,10 +19,8 @@ pub fn spread() -> [u32; 512]
 {
     let table = K;
     let mut constants = [0u32; 512];
-    let mut i = 0;
-    while i < 512 {
+    for i in 0..512 {
         constants[i] = table[i / 8];
-        i += 1;
     }
     constants
 }

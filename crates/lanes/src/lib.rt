@@ -31,12 +31,9 @@ pub fn digest_eight(messages: &[u8], n: usize) -> [u8; 256]
     let mut changes = [0u32; 544];
     start(&mut a, 3);
     start(&mut e, 7);
-    let blocks = n / 64 + 1;
-    let mut b = 0;
-    while b < blocks {
+    for b in 0..n / 64 + 1 {
         fill(messages, n, b, &mut words);
         compress(&constants, &mut words, &mut a, &mut e, &mut changes);
-        b += 1;
     }
     digests_of(&a, &e)
 }

@@ -5,7 +5,7 @@ ghost use Rattle.sha256.specs.Sha256 as Spec;
 ghost use Rattle.lanes.specs.Flat.{Agree, Loaded, Spread, Scheduled, Changed, Reached, Folded, hash_of};
 
 use sha256::block::{next_word, temp1};
-use sha256::word::{add, sum0};
+use sha256::word::sum0;
 
 // One more word of a schedule, sixteen words after place i.
 fn schedule(words: &mut [u32; 512], i: usize)
@@ -21,10 +21,8 @@ fn differ(a: &[u32; 544], changes: &mut [u32; 544])
     requires { length changes.old ≡ 544 }
     ensures { (length changes.new ≡ 544) × (Changed a.now changes.new 8) }
 {
-    let mut i = 0;
-    while i < 8 {
+    for i in 0..8 {
         changes[i + 16] = a[i + 16] ^ a[i + 8];
-        i += 1;
     }
 }
 
@@ -33,7 +31,7 @@ fn differ(a: &[u32; 544], changes: &mut [u32; 544])
 fn temp2(a: u32, b: u32, change: u32, before: u32) -> u32
     ensures { (c : ℕ) → change ≡ bit_xor a b → before ≡ bit_xor b c → result ≡ Spec.T₂ a b c }
 {
-    add(sum0(a), b ^ (change & before))
+    sum0(a).wrapping_add(b ^ (change & before))
 }
 
 // The round at place i. It makes two new words, an a and an e: its b, c, d and f, g, h are the a and the e of earlier rounds.
@@ -51,8 +49,8 @@ fn turn(
     let x = temp1(e[i + 24], e[i + 16], e[i + 8], e[i], constants[i], words[i]);
     let change = a[i + 24] ^ a[i + 16];
     let y = temp2(a[i + 24], a[i + 16], change, changes[i + 16]);
-    let next_e = add(a[i], x);
-    let next_a = add(x, y);
+    let next_e = a[i].wrapping_add(x);
+    let next_a = x.wrapping_add(y);
     changes[i + 24] = change;
     e[i + 32] = next_e;
     a[i + 32] = next_a;
@@ -71,11 +69,9 @@ fn first_turns(
     ensures words_len { (length words.new ≡ 512) × (Agree words.old words.new 128) × (Scheduled words.new 384) }
     ensures reached { Reached constants.now words.new a.old e.old a.new e.new changes.new 384 }
 {
-    let mut i = 0;
-    while i < 384 {
+    for i in 0..384 {
         schedule(words, i);
         turn(constants, words, a, e, changes, i);
-        i += 1;
     }
 }
 
@@ -89,10 +85,8 @@ fn last_turns(
 )
     ensures { (a₀ e₀ : List ℕ) → Reached constants.now words.now a₀ e₀ a.old e.old changes.old 384 → Reached constants.now words.now a₀ e₀ a.new e.new changes.new 512 }
 {
-    let mut i = 384;
-    while i < 512 {
+    for i in 384..512 {
         turn(constants, words, a, e, changes, i);
-        i += 1;
     }
 }
 
@@ -101,10 +95,8 @@ fn fold(x: &mut [u32; 544])
     requires { length x.old ≡ 544 }
     ensures { (length x.new ≡ 544) × (Folded x.old x.new 32) }
 {
-    let mut i = 0;
-    while i < 32 {
-        x[i] = add(x[i + 512], x[i]);
-        i += 1;
+    for i in 0..32 {
+        x[i] = x[i + 512].wrapping_add(x[i]);
     }
 }
 

@@ -1,4 +1,6 @@
 -- Opening looks at the length, the header's bytes and the active table alone. Assumes nothing.
+use Rattle.std.specs.Prelude.{Result, Ok, Err}
+use Rattle.layout.specs.declared.Refusal.{Refusal}
 use Prim.Native.Nat.{ℕ, ◌+◌, ◌≤◌, ◌<◌}
 use mathlib.Core.List.{List}
 use mathlib.Core.Path.{◌≡◌, refl, sym, ◌∙◌}
@@ -12,9 +14,6 @@ use Rattle.layout.specs.Tables.{active}
 use Rattle.layout.specs.Opening.{after_header, opened_under, opened}
 use Rattle.layout.specs.declared.Header.{Header}
 use Rattle.layout.specs.declared.Container.{Container}
-use Rattle.layout.specs.declared.JudgedHeader.{JudgedHeader}
-use Rattle.layout.specs.declared.JudgedHeader.TheVariants.{GoodHeader, BadHeader}
-use Rattle.layout.specs.declared.Opened.TheVariants.{Valid}
 use Rattle.layout.proofs.GuaranteeLaws.{checked}
 
 -- two images have the same byte at each place of a range
@@ -28,10 +27,10 @@ agree_part image other r n same = part_same image other r.offset r.size n same
 
 -- by parts: equal lengths, equal header bytes, equal active tables
 module _ (image other : List ℕ) (n : length image ≡ length other) (header : header_bytes image ≡ header_bytes other)
-    (table : (h : Header) → judged_header (length image) (header_bytes image) ≡ GoodHeader h → part image (active h) ≡ part other (active h)) where
-  same_after : (x : JudgedHeader) → judged_header (length image) (header_bytes image) ≡ x → after_header (header_bytes image) image x ≡ after_header (header_bytes other) other x
-  same_after (BadHeader r) e = refl
-  same_after (GoodHeader h) e = rw (table h e, header)
+    (table : (h : Header) → judged_header (length image) (header_bytes image) ≡ Ok h → part image (active h) ≡ part other (active h)) where
+  same_after : (x : Result Header Refusal) → judged_header (length image) (header_bytes image) ≡ x → after_header (header_bytes image) image x ≡ after_header (header_bytes other) other x
+  same_after (Err r) e = refl
+  same_after (Ok h) e = rw (table h e, header)
 
   pub frame_parts : opened image ≡ opened other
   unfolding opened opened_under
@@ -39,17 +38,17 @@ module _ (image other : List ℕ) (n : length image ≡ length other) (header : 
 
 -- by bytes: two images of one length that agree on the first 0x200 bytes and on the active table open alike
 pub frame_bytes : (image other : List ℕ) → length image ≡ length other → Agree image other front
-    → ((h : Header) → judged_header (length image) (header_bytes image) ≡ GoodHeader h → Agree image other (active h)) → opened image ≡ opened other
+    → ((h : Header) → judged_header (length image) (header_bytes image) ≡ Ok h → Agree image other (active h)) → opened image ≡ opened other
 frame_bytes image other n first table =
     frame_parts image other n
     (agree_part image other header_range n (λ i a b. first i (omega arith) (omega arith)))
     (λ h e. agree_part image other (active h) n (table h e))
 
 -- so an image that agrees there with an opened one opens as the same container
-pub frame_opened : (image other : List ℕ) (c : Container) → opened image ≡ Valid c → length image ≡ length other → Agree image other front
-    → Agree image other (active c.header) → opened other ≡ Valid c
+pub frame_opened : (image other : List ℕ) (c : Container) → opened image ≡ Ok c → length image ≡ length other → Agree image other front
+    → Agree image other (active c.header) → opened other ≡ Ok c
 frame_opened image other c e n first table =
     sym (frame_bytes image other n first (λ h p. let q : h ≡ c.header = one h p in rw q table)) ∙ e
   where
-    one : (h : Header) → judged_header (length image) (header_bytes image) ≡ GoodHeader h → h ≡ c.header
-    one h p = let q : judged_header (length image) (header_bytes image) ≡ GoodHeader c.header = (checked image c e).header in cc
+    one : (h : Header) → judged_header (length image) (header_bytes image) ≡ Ok h → h ≡ c.header
+    one h p = let q : judged_header (length image) (header_bytes image) ≡ Ok c.header = (checked image c e).header in cc

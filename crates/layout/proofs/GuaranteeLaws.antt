@@ -1,4 +1,5 @@
 -- An image opens exactly if the checks hold, and then it keeps to the guarantees. Assumes nothing.
+use Rattle.std.specs.Prelude.{Result, Ok, Err, Option, Some, None}
 use Prim.Native.Nat.{ℕ, ◌≤◌}
 use mathlib.Core.Bool.{Bool, true, false, cond}
 use mathlib.Core.List.{List}
@@ -21,42 +22,35 @@ use Rattle.layout.specs.Guarantees.{HeaderGuarantees, SlotGuarantees, Described,
 use Rattle.layout.specs.declared.Header.{Header}
 use Rattle.layout.specs.declared.Slot.{Slot}
 use Rattle.layout.specs.declared.Partition.{Partition}
-use Rattle.layout.specs.declared.Second.{Second}
-use Rattle.layout.specs.declared.Second.TheVariants.{Missing, There}
 use Rattle.layout.specs.declared.Container.{Container}
 use Rattle.layout.specs.declared.Refusal.{Refusal}
 use Rattle.layout.specs.declared.Refusal.TheVariants.{Length, TableHash, Descriptor, Placement}
-use Rattle.layout.specs.declared.JudgedHeader.{JudgedHeader}
-use Rattle.layout.specs.declared.JudgedHeader.TheVariants.{GoodHeader, BadHeader}
-use Rattle.layout.specs.declared.JudgedPartition.{JudgedPartition}
-use Rattle.layout.specs.declared.JudgedPartition.TheVariants.{GoodPartition, BadPartition}
-use Rattle.layout.specs.declared.Opened.TheVariants.{Valid, Refused}
 use Rattle.layout.proofs.HeaderLaws.{header_checked, header_guarantees}
 use Rattle.layout.proofs.PartitionLaws.{partition_guarantees}
 use Rattle.layout.proofs.TableLaws.{descriptor_length}
 
 -- ---- the checks
 
-abbrev pub SecondChecks : (table : List ℕ) → Header → Second → Type 0
-SecondChecks table h Missing = eqb h.count 2 ≡ false
-SecondChecks table h (There b) = (eqb h.count 2 ≡ true) × (judged_slot table h.b ≡ GoodPartition b)
+abbrev pub SecondChecks : (table : List ℕ) → Header → Option Partition → Type 0
+SecondChecks table h None = eqb h.count 2 ≡ false
+SecondChecks table h (Some b) = (eqb h.count 2 ≡ true) × (judged_slot table h.b ≡ Ok b)
 
 -- those that a header and the bytes of its active table pass
 pub record TableChecks (h : Header) (header table : List ℕ) (c : Container) : Type 0 where
   pub same : h ≡ c.header
   pub matches : table_matches h.kind header table ≡ true
-  pub first : judged_slot table h.a ≡ GoodPartition c.a
+  pub first : judged_slot table h.a ≡ Ok c.a
   pub second : SecondChecks table h c.b
 
 pub record Checks (image : List ℕ) (c : Container) : Type 0 where
   pub size : length_allowed (length image) ≡ true
-  pub header : judged_header (length image) (header_bytes image) ≡ GoodHeader c.header
+  pub header : judged_header (length image) (header_bytes image) ≡ Ok c.header
   pub table : TableChecks c.header (header_bytes image) (part image (active c.header)) c
 
-no_partition : {r : Refusal} {p : Partition} → BadPartition r ≡ GoodPartition p → ⊥
+no_partition : {r : Refusal} {p : Partition} → Err r ≡ Ok p → ⊥
 no_partition e = let z : ◌≡◌ {A = ℕ} 0 1 = cc in omega arith
 
-refused : {r : Refusal} {c : Container} → Refused r ≡ Valid c → ⊥
+refused : {r : Refusal} {c : Container} → Err r ≡ Ok c → ⊥
 refused e = let z : ◌≡◌ {A = ℕ} 0 1 = cc in omega arith
 
 module _ (h : Header) (header table : List ℕ) (c : Container) where
@@ -65,7 +59,7 @@ module _ (h : Header) (header table : List ℕ) (c : Container) where
     pub first : a ≡ c.a
     pub second : SecondChecks table h c.b
 
-  is_valid_lem : (a : Partition) (b : Second) → Valid (record { header = h; a = a; b = b }) ≡ Valid c → SecondChecks table h b → FirstChecks a
+  is_valid_lem : (a : Partition) (b : Option Partition) → ◌≡◌ {A = Result Container Refusal} (Ok (record { header = h; a = a; b = b })) (Ok c) → SecondChecks table h b → FirstChecks a
   is_valid_lem a b e s =
       let q : ◌≡◌ {A = Container} (record { header = h; a = a; b = b }) c = cc in
       record {
@@ -74,56 +68,56 @@ module _ (h : Header) (header table : List ℕ) (c : Container) where
         second = rw (ap (λ (x : Container). x.b) q) at s;
       }
 
-  b_checked : (a : Partition) → eqb h.count 2 ≡ true → (y : JudgedPartition) → judged_slot table h.b ≡ y → after_b h a y ≡ Valid c → FirstChecks a
-  b_checked a two (BadPartition r) p e = absurd (refused e)
-  b_checked a two (GoodPartition b) p e = is_valid_lem a (There b) e (two, p)
+  b_checked : (a : Partition) → eqb h.count 2 ≡ true → (y : Result Partition Refusal) → judged_slot table h.b ≡ y → after_b h a y ≡ Ok c → FirstChecks a
+  b_checked a two (Err r) p e = absurd (refused e)
+  b_checked a two (Ok b) p e = is_valid_lem a (Some b) e (two, p)
 
   a_checked : (a : Partition) → (t : Bool) → eqb h.count 2 ≡ t
-      → cond t (after_b h a (judged_slot table h.b)) (Valid (record { header = h; a = a; b = Missing })) ≡ Valid c → FirstChecks a
+      → cond t (after_b h a (judged_slot table h.b)) (Ok (record { header = h; a = a; b = None })) ≡ Ok c → FirstChecks a
   a_checked a true p e = b_checked a p (judged_slot table h.b) refl e
-  a_checked a false p e = is_valid_lem a Missing e p
+  a_checked a false p e = is_valid_lem a None e p
 
-  table_checked : after_table h header table ≡ Valid c → TableChecks h header table c
+  table_checked : after_table h header table ≡ Ok c → TableChecks h header table c
   unfolding after_table
   table_checked e = go (table_matches h.kind header table) (judged_slot table h.a) refl refl e
     where
-      go : (t : Bool) (y : JudgedPartition) → table_matches h.kind header table ≡ t → judged_slot table h.a ≡ y
-          → cond t (after_a h table y) (Refused TableHash) ≡ Valid c → TableChecks h header table c
+      go : (t : Bool) (y : Result Partition Refusal) → table_matches h.kind header table ≡ t → judged_slot table h.a ≡ y
+          → cond t (after_a h table y) (Err TableHash) ≡ Ok c → TableChecks h header table c
       go false y p q e = absurd (refused e)
-      go true (BadPartition r) p q e = absurd (refused e)
-      go true (GoodPartition a) p q e =
+      go true (Err r) p q e = absurd (refused e)
+      go true (Ok a) p q e =
           let w = a_checked a (eqb h.count 2) refl e in
-          record { same = w.same; matches = p; first = q ∙ ap GoodPartition w.first; second = w.second }
+          record { same = w.same; matches = p; first = q ∙ ap Ok w.first; second = w.second }
 
 -- an opened image passes every check
-pub checked : (image : List ℕ) (c : Container) → opened image ≡ Valid c → Checks image c
+pub checked : (image : List ℕ) (c : Container) → opened image ≡ Ok c → Checks image c
 unfolding opened opened_under
 checked image c e = go (length_allowed (length image)) (judged_header (length image) (header_bytes image)) refl refl e
   where
-    go : (t : Bool) (x : JudgedHeader) → length_allowed (length image) ≡ t → judged_header (length image) (header_bytes image) ≡ x
-        → cond t (after_header (header_bytes image) image x) (Refused Length) ≡ Valid c → Checks image c
+    go : (t : Bool) (x : Result Header Refusal) → length_allowed (length image) ≡ t → judged_header (length image) (header_bytes image) ≡ x
+        → cond t (after_header (header_bytes image) image x) (Err Length) ≡ Ok c → Checks image c
     go false x p q e = absurd (refused e)
-    go true (BadHeader r) p q e = absurd (refused e)
-    go true (GoodHeader h) p q e =
+    go true (Err r) p q e = absurd (refused e)
+    go true (Ok h) p q e =
         let w = table_checked h (header_bytes image) (part image (active h)) c e in
         record {
           size = p;
-          header = q ∙ ap GoodHeader w.same;
+          header = q ∙ ap Ok w.same;
           table = rw w.same at w;
         }
 
 -- and an image that passes every check opens
 module _ (h : Header) (header table : List ℕ) (a : Partition) where
-  second_opens : (b : Second) → SecondChecks table h b → after_a h table (GoodPartition a) ≡ Valid (record { header = h; a = a; b = b })
-  second_opens Missing e = rw e
-  second_opens (There b) (two, e) = rw (two, e)
+  second_opens : (b : Option Partition) → SecondChecks table h b → after_a h table (Ok a) ≡ Ok (record { header = h; a = a; b = b })
+  second_opens None e = rw e
+  second_opens (Some b) (two, e) = rw (two, e)
 
-  table_opens : (b : Second) → table_matches h.kind header table ≡ true → judged_slot table h.a ≡ GoodPartition a → SecondChecks table h b
-      → after_table h header table ≡ Valid (record { header = h; a = a; b = b })
+  table_opens : (b : Option Partition) → table_matches h.kind header table ≡ true → judged_slot table h.a ≡ Ok a → SecondChecks table h b
+      → after_table h header table ≡ Ok (record { header = h; a = a; b = b })
   unfolding after_table
   table_opens b m f s = rw (after_table, m, f) (second_opens b s)
 
-pub opens : (image : List ℕ) (c : Container) → Checks image c → opened image ≡ Valid c
+pub opens : (image : List ℕ) (c : Container) → Checks image c → opened image ≡ Ok c
 unfolding opened opened_under
 opens image c k =
     rw (opened, opened_under, k.size, k.header)
@@ -137,13 +131,13 @@ pub record PartitionChecks (size : ℕ) (d : List ℕ) (p : Partition) : Type 0 
   pub form : form_allowed d p ≡ true
   pub places : places_allowed size (length d) p ≡ true
 
-pub partition_checked : (size : ℕ) (d : List ℕ) (p : Partition) → judged_partition size d ≡ GoodPartition p → PartitionChecks size d p
+pub partition_checked : (size : ℕ) (d : List ℕ) (p : Partition) → judged_partition size d ≡ Ok p → PartitionChecks size d p
 unfolding judged_partition
 partition_checked size d p e =
     go (leb difi_size (length d)) (form_allowed d (partition_fields d)) (places_allowed size (length d) (partition_fields d)) refl refl e
   where
     go : (x y z : Bool) → form_allowed d (partition_fields d) ≡ y → places_allowed size (length d) (partition_fields d) ≡ z
-        → cond x (cond y (cond z (GoodPartition (partition_fields d)) (BadPartition Placement)) (BadPartition Descriptor)) (BadPartition Placement) ≡ GoodPartition p
+        → cond x (cond y (cond z (Ok (partition_fields d)) (Err Placement)) (Err Descriptor)) (Err Placement) ≡ Ok p
         → PartitionChecks size d p
     go true true true f r e =
         let q : partition_fields d ≡ p = cc in
@@ -152,12 +146,12 @@ partition_checked size d p e =
     go true false z f r e = absurd (no_partition e)
     go false y z f r e = absurd (no_partition e)
 
-pub partition_passes : (size : ℕ) (d : List ℕ) (p : Partition) → difi_size ≤ length d → PartitionChecks size d p → judged_partition size d ≡ GoodPartition p
+pub partition_passes : (size : ℕ) (d : List ℕ) (p : Partition) → difi_size ≤ length d → PartitionChecks size d p → judged_partition size d ≡ Ok p
 unfolding judged_partition
 partition_passes size d p long k = rw (judged_partition, le-leb difi_size (length d) long, ← k.fields, k.form, k.places)
 
 module _ (image : List ℕ) (h : Header) (k : HeaderGuarantees (length image) h) where
-  described : (slot : Slot) (p : Partition) → SlotGuarantees (length image) h slot → judged_slot (part image (active h)) slot ≡ GoodPartition p
+  described : (slot : Slot) (p : Partition) → SlotGuarantees (length image) h slot → judged_slot (part image (active h)) slot ≡ Ok p
       → Described (part image (active h)) slot p
   described slot p s e =
       let w = partition_checked slot.partition.size (part (part image (active h)) slot.descriptor) p e in
@@ -166,16 +160,16 @@ module _ (image : List ℕ) (h : Header) (k : HeaderGuarantees (length image) h)
         guarantees = rw (← descriptor_length image h k slot s) (partition_guarantees slot.partition.size (part (part image (active h)) slot.descriptor) p w.form w.places);
       }
 
-  second : (b : Second) → SecondChecks (part image (active h)) h b → SecondGuarantees (part image (active h)) h b
-  second Missing e = one k.count
+  second : (b : Option Partition) → SecondChecks (part image (active h)) h b → SecondGuarantees (part image (active h)) h b
+  second None e = one k.count
     where
       one : (h.count ≡ 1) ⊎ (h.count ≡ 2) → h.count ≡ 1
       one (inl p) = p
       one (inr p) = absurd (eqb-false h.count 2 e p)
-  second (There b) (two, e) = let n = eqb-true h.count 2 two in (n, described h.b b (k.b n) e)
+  second (Some b) (two, e) = let n = eqb-true h.count 2 two in (n, described h.b b (k.b n) e)
 
 -- all that an opened image keeps to
-pub guarantees : (image : List ℕ) (c : Container) → opened image ≡ Valid c → Guarantees image c
+pub guarantees : (image : List ℕ) (c : Container) → opened image ≡ Ok c → Guarantees image c
 unfolding length_allowed table_matches
 guarantees image c e =
     let k = checked image c e in
@@ -193,5 +187,5 @@ guarantees image c e =
     }
 
 -- an image opens as one container
-pub one_container : (image : List ℕ) (c d : Container) → opened image ≡ Valid c → opened image ≡ Valid d → c ≡ d
+pub one_container : (image : List ℕ) (c d : Container) → opened image ≡ Ok c → opened image ≡ Ok d → c ≡ d
 one_container image c d p q = cc

@@ -1,4 +1,5 @@
 -- What a header that was not refused keeps to. Assumes nothing.
+use Rattle.std.specs.Prelude.{Ok, Err}
 use Prim.Native.Nat.{ℕ, ◌+◌, ◌≤◌}
 use mathlib.Core.Bool.{Bool, true, false, ◌&&◌, ◌||◌, cond}
 use mathlib.Core.List.{List, [], ◌∷◌}
@@ -25,7 +26,6 @@ use Rattle.layout.specs.declared.Kind.{Kind}
 use Rattle.layout.specs.declared.Kind.TheVariants.{Disa, Diff}
 use Rattle.layout.specs.declared.Header.{Header}
 use Rattle.layout.specs.declared.Refusal.TheVariants.{Selection, Geometry}
-use Rattle.layout.specs.declared.JudgedHeader.TheVariants.{GoodHeader, BadHeader}
 
 -- ---- the header's bytes
 
@@ -73,12 +73,12 @@ pub record HeaderChecks (length : ℕ) (header : List ℕ) (h : Header) : Type 0
   pub geometry : geometry_allowed length h ≡ true
 
 module _ (length : ℕ) (header : List ℕ) (h : Header) where
-  fields_checked : (g : Header) → judged_fields length g ≡ GoodHeader h → (g ≡ h) × (selection_allowed h ≡ true) × (geometry_allowed length h ≡ true)
+  fields_checked : (g : Header) → judged_fields length g ≡ Ok h → (g ≡ h) × (selection_allowed h ≡ true) × (geometry_allowed length h ≡ true)
   unfolding judged_fields
   fields_checked g e = go (selection_allowed g) (geometry_allowed length g) refl refl e
     where
       go : (x y : Bool) → selection_allowed g ≡ x → geometry_allowed length g ≡ y
-          → cond x (cond y (GoodHeader g) (BadHeader Geometry)) (BadHeader Selection) ≡ GoodHeader h
+          → cond x (cond y (Ok g) (Err Geometry)) (Err Selection) ≡ Ok h
           → (g ≡ h) × (selection_allowed h ≡ true) × (geometry_allowed length h ≡ true)
       go true true p q e = let s : g ≡ h = cc in (s, rw (← s) p, rw (← s) q)
       go true false p q e = let z : ◌≡◌ {A = ℕ} 0 1 = cc in absurd (omega arith)
@@ -88,12 +88,12 @@ module _ (length : ℕ) (header : List ℕ) (h : Header) where
       → (g ≡ h) × (selection_allowed h ≡ true) × (geometry_allowed length h ≡ true) → HeaderChecks length header h
   checked g k f m (s, p, q) = record { magic = ap (λ (kind : Kind). opens_with header (header_magic kind)) k ∙ m; fields = sym s ∙ sym f ∙ ap (λ (kind : Kind). header_fields kind header) (sym k); selection = p; geometry = q }
 
-  pub header_checked : judged_header length header ≡ GoodHeader h → HeaderChecks length header h
+  pub header_checked : judged_header length header ≡ Ok h → HeaderChecks length header h
   unfolding judged_header kind_in disa_header diff_header
   header_checked e = go (opens_with header disa_magic) (opens_with header diff_magic) refl refl e
     where
       go : (x y : Bool) → opens_with header disa_magic ≡ x → opens_with header diff_magic ≡ y
-          → judged_as length header (cond x (some Disa) (cond y (some Diff) none)) ≡ GoodHeader h
+          → judged_as length header (cond x (some Disa) (cond y (some Diff) none)) ≡ Ok h
           → HeaderChecks length header h
       go true y p q e =
           let w = fields_checked (disa_header header) e in
@@ -113,11 +113,11 @@ unfolding kind_in
 kind_told Disa s m = rw (kind_in, m)
 kind_told Diff s m = rw (kind_in, one_kind s m, m)
 
-fields_pass : (length : ℕ) (h : Header) → selection_allowed h ≡ true → geometry_allowed length h ≡ true → judged_fields length h ≡ GoodHeader h
+fields_pass : (length : ℕ) (h : Header) → selection_allowed h ≡ true → geometry_allowed length h ≡ true → judged_fields length h ≡ Ok h
 unfolding judged_fields
 fields_pass length h p q = rw (judged_fields, p, q)
 
-pub header_passes : (length : ℕ) (header : List ℕ) (h : Header) → HeaderChecks length header h → judged_header length header ≡ GoodHeader h
+pub header_passes : (length : ℕ) (header : List ℕ) (h : Header) → HeaderChecks length header h → judged_header length header ≡ Ok h
 unfolding judged_header
 header_passes length header h k =
     ap (judged_as length header) (kind_told h.kind header k.magic) ∙ ap (judged_fields length) (sym k.fields) ∙ fields_pass length h k.selection k.geometry

@@ -7,3 +7,4 @@ pub mod GuaranteeLaws
 pub mod FrameLaws
 pub mod LogLaws
 pub mod UnderLaws
+pub mod PassedUp

@@ -1,5 +1,6 @@
 -- A descriptor: DIFI at its start, then IVFC, DPFS and the master hash where DIFI places them.
-use Rattle.std.specs.Prelude.{ℕ, ◌+◌, ◌*◌, Bool, ◌&&◌, ◌||◌, not, cond, List, [], ◌∷◌, get_or, length, leb, eqb}
+use Rattle.std.specs.Prelude.{ℕ, ◌+◌, ◌*◌, Bool, ◌&&◌, ◌||◌, not, cond, List, [], ◌∷◌, get_or, length, leb, eqb, Result, Ok, Err}
+use Rattle.layout.specs.declared.Refusal.{Refusal}
 use Rattle.number.specs.declared.Range.{Range}
 use Rattle.number.specs.declared.Level.{Level}
 use Rattle.number.specs.Fields.{le64}
@@ -14,8 +15,6 @@ use Rattle.layout.specs.declared.Ivfc.{Ivfc}
 use Rattle.layout.specs.declared.Dpfs.{Dpfs}
 use Rattle.layout.specs.declared.Partition.{Partition}
 use Rattle.layout.specs.declared.Refusal.TheVariants.{Descriptor, Placement}
-use Rattle.layout.specs.declared.JudgedPartition.{JudgedPartition}
-use Rattle.layout.specs.declared.JudgedPartition.TheVariants.{GoodPartition, BadPartition}
 
 -- ---- the fields
 
@@ -154,10 +153,10 @@ places_allowed size length p = pieces_placed length p.difi && levels_placed size
 
 -- ---- 6, then 7, of the partition's size and the descriptor's bytes; a DIFI that does not lie in the descriptor is not read
 
-unfoldable pub judged_partition : (size : ℕ) → (descriptor : List ℕ) → JudgedPartition
+unfoldable pub judged_partition : (size : ℕ) → (descriptor : List ℕ) → Result Partition Refusal
 judged_partition size d =
     cond (leb difi_size (length d))
     (cond (form_allowed d (partition_fields d))
-    (cond (places_allowed size (length d) (partition_fields d)) (GoodPartition (partition_fields d)) (BadPartition Placement))
-    (BadPartition Descriptor))
-    (BadPartition Placement)
+    (cond (places_allowed size (length d) (partition_fields d)) (Ok (partition_fields d)) (Err Placement))
+    (Err Descriptor))
+    (Err Placement)

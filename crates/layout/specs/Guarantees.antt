@@ -1,6 +1,6 @@
--- What every opened image keeps to, as orders and equations of numbers. Each record follows from `opened image ≡ Valid c`
+-- What every opened image keeps to, as orders and equations of numbers. Each record follows from `opened image ≡ Ok c`
 -- (proofs/GuaranteeLaws.antt, `guarantees`).
-use Rattle.std.specs.Prelude.{ℕ, ◌+◌, ◌*◌, ◌%◌, ◌≤◌, true, false, List, ◌⊎◌, ◌≡◌, length}
+use Rattle.std.specs.Prelude.{ℕ, ◌+◌, ◌*◌, ◌%◌, ◌≤◌, true, false, List, ◌⊎◌, ◌≡◌, length, Option, Some, None}
 use Rattle.number.specs.declared.Level.{Level}
 use Rattle.number.specs.Ranges.{Apart, level_range, twice, part}
 use Rattle.number.specs.Blocks.{blocks}
@@ -13,8 +13,6 @@ use Rattle.layout.specs.Descriptors.{partition_fields, external_range}
 use Rattle.layout.specs.declared.Header.{Header}
 use Rattle.layout.specs.declared.Slot.{Slot}
 use Rattle.layout.specs.declared.Partition.{Partition}
-use Rattle.layout.specs.declared.Second.{Second}
-use Rattle.layout.specs.declared.Second.TheVariants.{Missing, There}
 use Rattle.layout.specs.declared.Container.{Container}
 
 -- ---- the header
@@ -129,9 +127,9 @@ pub record Described (table : List ℕ) (slot : Slot) (p : Partition) : Type 0 w
   pub guarantees : PartitionGuarantees slot.partition.size slot.descriptor.size p
 
 -- B is there exactly if the count is 2
-abbrev pub SecondGuarantees : (table : List ℕ) → Header → Second → Type 0
-SecondGuarantees table h Missing = h.count ≡ 1
-SecondGuarantees table h (There b) = (h.count ≡ 2) × Described table h.b b
+abbrev pub SecondGuarantees : (table : List ℕ) → Header → Option Partition → Type 0
+SecondGuarantees table h None = h.count ≡ 1
+SecondGuarantees table h (Some b) = (h.count ≡ 2) × Described table h.b b
 
 pub record Guarantees (image : List ℕ) (c : Container) : Type 0 where
   pub shortest : shortest_image ≤ length image

@@ -1,5 +1,6 @@
 -- The header, at 0x100; the offsets below are within it.
-use Rattle.std.specs.Prelude.{ℕ, ◌+◌, Bool, ◌&&◌, ◌||◌, cond, List, [], ◌∷◌, get_or, eqb}
+use Rattle.std.specs.Prelude.{ℕ, ◌+◌, Bool, ◌&&◌, ◌||◌, cond, List, [], ◌∷◌, get_or, eqb, Result, Ok, Err, codes}
+use Rattle.layout.specs.declared.Refusal.{Refusal}
 use Rattle.std.proofs.Math.Option.{Option, none, some}
 use Rattle.number.specs.declared.Range.{Range}
 use Rattle.number.specs.Fields.{le32, le64}
@@ -11,8 +12,6 @@ use Rattle.layout.specs.declared.Kind.TheVariants.{Disa, Diff}
 use Rattle.layout.specs.declared.Slot.{Slot}
 use Rattle.layout.specs.declared.Header.{Header}
 use Rattle.layout.specs.declared.Refusal.TheVariants.{Format, Selection, Geometry}
-use Rattle.layout.specs.declared.JudgedHeader.{JudgedHeader}
-use Rattle.layout.specs.declared.JudgedHeader.TheVariants.{GoodHeader, BadHeader}
 
 -- the header's 256 bytes
 abbrev pub header_range : Range
@@ -71,6 +70,11 @@ diff_header s = record {
   b = no_slot;
 }
 
+-- a kind's name, as it is printed
+abbrev pub kind_name : Kind → List ℕ
+kind_name Disa = codes "DISA"
+kind_name Diff = codes "DIFF"
+
 -- the same by kind: the eight opening bytes and the fields
 abbrev pub header_magic : Kind → List ℕ
 header_magic Disa = disa_magic
@@ -106,18 +110,18 @@ geometry_allowed length h =
     && placed h.primary.size (descriptor_ranges h)
 
 -- 3, then 4
-unfoldable pub judged_fields : (length : ℕ) → Header → JudgedHeader
+unfoldable pub judged_fields : (length : ℕ) → Header → Result Header Refusal
 judged_fields length h =
-    cond (selection_allowed h) (cond (geometry_allowed length h) (GoodHeader h) (BadHeader Geometry)) (BadHeader Selection)
+    cond (selection_allowed h) (cond (geometry_allowed length h) (Ok h) (Err Geometry)) (Err Selection)
 
 -- 2: the first eight header bytes are those of a kind, or of neither
 unfoldable pub kind_in : (header : List ℕ) → Option Kind
 kind_in header = cond (opens_with header (header_magic Disa)) (some Disa) (cond (opens_with header (header_magic Diff)) (some Diff) none)
 
 -- 2, then 3 and 4, of an image's length and its header's bytes
-abbrev pub judged_as : (length : ℕ) → (header : List ℕ) → Option Kind → JudgedHeader
-judged_as length header none = BadHeader Format
+abbrev pub judged_as : (length : ℕ) → (header : List ℕ) → Option Kind → Result Header Refusal
+judged_as length header none = Err Format
 judged_as length header (some kind) = judged_fields length (header_fields kind header)
 
-unfoldable pub judged_header : (length : ℕ) → (header : List ℕ) → JudgedHeader
+unfoldable pub judged_header : (length : ℕ) → (header : List ℕ) → Result Header Refusal
 judged_header length header = judged_as length header (kind_in header)

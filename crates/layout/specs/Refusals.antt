@@ -1,9 +1,5 @@
 -- What answers say in the paper's terms: a number, and the value that it carries.
-use Rattle.std.specs.Prelude.{ℕ, ◌≡◌}
-use Rattle.layout.specs.declared.Outcome.{Outcome}
-use Rattle.layout.specs.declared.Outcome.TheVariants as outcome
-use Rattle.layout.specs.declared.Opened.{Opened}
-use Rattle.layout.specs.declared.Opened.TheVariants as opening
+use Rattle.std.specs.Prelude.{ℕ, ◌≡◌, Result, Ok, Err}
 use Rattle.layout.specs.declared.Refusal.{Refusal}
 use Rattle.layout.specs.declared.Refusal.TheVariants.{Length, Format, Selection, Geometry, TableHash, Descriptor, Placement, NoPartition, OutOfRange, Unverified, SessionState, Stale, SignerKind, Signature, DigestTooLong, InvalidEntry, NoSave, BlankSize, NothingToRevert}
 
@@ -40,16 +36,19 @@ refuses BlankSize = refusal 20
 refuses NothingToRevert = refusal 21
 refuses DigestTooLong = refusal 22
 
--- each enum that is an answer has such a definition, beside its calls; these two are opening's and that of calls which answer no more than yes
-abbrev pub outcome_says : Outcome → Said
-outcome_says outcome.Accepted = accepts 0
-outcome_says (outcome.Refused r) = refuses r
+-- what an answer says: of an accepted one the number that its value counts as, else the refusal
+abbrev pub says : {T : Type 0} → (number : T → ℕ) → Result T Refusal → Said
+says number (Ok x) = accepts (number x)
+says number (Err r) = refuses r
 
-abbrev pub opened_says : Opened → Said
-opened_says (opening.Valid c) = accepts 0
-opened_says (opening.Refused r) = refuses r
+-- where no number goes with a yes, and where the value is a number
+abbrev pub outcome_says : {T : Type 0} → Result T Refusal → Said
+outcome_says {T} answer = says (λ (_ : T). 0) answer
 
--- a call's answer is the one that its definition gives: the enum's case, and so what it says
+abbrev pub count_says : Result ℕ Refusal → Said
+count_says answer = says (λ (n : ℕ). n) answer
+
+-- a call's answer is the one that its definition gives: the same value or refusal, and so what it says
 pub record Answers {E : Type 0} (says : E → Said) (answer given : E) : Type 0 where
   pub case : answer ≡ given
   pub said : says answer ≡ says given

@@ -6,11 +6,11 @@ ghost use Rattle.layout.specs.Descriptors.{level_at, difi_fields, ivfc_fields, d
 
 use super::headers::range_at;
 use super::magic::opens_with;
-use super::{Difi, Dpfs, Ivfc, JudgedPartition, Partition, Refusal, SELECTOR};
+use super::{Difi, Dpfs, Ivfc, Partition, Refusal, SELECTOR};
 use limits::{ENTRY_SIZE, level_allowed, log_at, master_allowed, size_allowed};
 use number::blocks::block_count;
 use number::fields::{byte, field8};
-use number::ranges::{four_placed, lies_inside, pair_fits, pair_of, part_of, three_placed};
+use number::ranges::{are_placed, lies_inside, pair_fits, pair_of, part_of};
 use number::{Level, Range};
 
 const DIFI_SIZE: u64 = 0x44;
@@ -147,7 +147,7 @@ fn pieces_placed(length: u64, difi: Difi) -> bool
         offset: 0,
         size: DIFI_SIZE,
     };
-    four_placed(length, first, difi.ivfc, difi.dpfs, difi.master)
+    are_placed(length, &[first, difi.ivfc, difi.dpfs, difi.master])
 }
 
 fn level_range(l: Level) -> Range
@@ -173,7 +173,7 @@ fn pairs_placed(whole: u64, a: Range, b: Range, c: Range) -> bool
     if !pairs_fit(whole, a, b, c) {
         return false;
     }
-    three_placed(whole, pair_of(a), pair_of(b), pair_of(c))
+    are_placed(whole, &[pair_of(a), pair_of(b), pair_of(c)])
 }
 
 // The same with an external level 4.
@@ -183,7 +183,7 @@ fn pairs_and_one_placed(whole: u64, a: Range, b: Range, c: Range, d: Range) -> b
     if !pairs_fit(whole, a, b, c) {
         return false;
     }
-    four_placed(whole, pair_of(a), pair_of(b), pair_of(c), d)
+    are_placed(whole, &[pair_of(a), pair_of(b), pair_of(c), d])
 }
 
 // The pairs and an external level 4 in the partition, the other IVFC levels in DPFS level 3.
@@ -206,9 +206,10 @@ fn levels_placed(size: u64, p: Partition) -> bool
             size: level4.size,
         };
         pairs_and_one_placed(size, pair1, pair2, pair3, outside)
-            & three_placed(room, level1, level2, level3)
+            & are_placed(room, &[level1, level2, level3])
     } else {
-        pairs_placed(size, pair1, pair2, pair3) & four_placed(room, level1, level2, level3, level4)
+        pairs_placed(size, pair1, pair2, pair3)
+            & are_placed(room, &[level1, level2, level3, level4])
     }
 }
 
@@ -252,19 +253,19 @@ fn places_allowed(size: u64, length: u64, p: Partition) -> bool
 }
 
 // 6, then 7, of the partition's size and its descriptor's bytes. A descriptor with no room for DIFI is not read.
-pub(crate) fn judge_partition(size: u64, d: &[u8]) -> JudgedPartition
+pub(crate) fn judge_partition(size: u64, d: &[u8]) -> Result<Partition, Refusal>
     ensures { result ≡ judged_partition size d.now }
 {
     let length = d.len() as u64;
     if length < DIFI_SIZE {
-        return JudgedPartition::BadPartition(Refusal::Placement);
+        return Err(Refusal::Placement);
     }
     let p = read_partition(d);
     if !form_allowed(d, p) {
-        return JudgedPartition::BadPartition(Refusal::Descriptor);
+        return Err(Refusal::Descriptor);
     }
     if !places_allowed(size, length, p) {
-        return JudgedPartition::BadPartition(Refusal::Placement);
+        return Err(Refusal::Placement);
     }
-    JudgedPartition::GoodPartition(p)
+    Ok(p)
 }

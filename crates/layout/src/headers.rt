@@ -3,11 +3,11 @@ ghost use Rattle.std.specs.Prelude.{◌≡◌, ◌+◌, ◌<◌, ◌≤◌, ◌^
 ghost use Rattle.layout.specs.Headers.{header_bytes, range_at, no_slot, disa_header, diff_header, selection_allowed, geometry_allowed, judged_fields, judged_header};
 
 use super::magic::opens_as;
-use super::{FRONT, HEADER, Header, JudgedHeader, Kind, Refusal, Slot};
+use super::{FRONT, HEADER, Header, Kind, Refusal, Slot};
 use limits::{are_zero, count_allowed, flag_allowed, table_allowed};
 use number::Range;
 use number::fields::{byte, field4, field8};
-use number::ranges::{fits_in, five_placed, four_placed, two_placed};
+use number::ranges::{are_placed, fits_in};
 use number::runs::copy_into;
 
 // Where the active flag stands in a header of either kind.
@@ -123,30 +123,33 @@ fn geometry_allowed(length: u64, h: Header) -> bool
     let small = table_allowed(primary.size);
     if h.count == 2 {
         small
-            & five_placed(length, front, secondary, primary, a.partition, b.partition)
-            & two_placed(primary.size, a.descriptor, b.descriptor)
+            & are_placed(
+                length,
+                &[front, secondary, primary, a.partition, b.partition],
+            )
+            & are_placed(primary.size, &[a.descriptor, b.descriptor])
     } else {
         small
-            & four_placed(length, front, secondary, primary, a.partition)
+            & are_placed(length, &[front, secondary, primary, a.partition])
             & fits_in(primary.size, a.descriptor)
     }
 }
 
 // 3, then 4.
-fn judge_fields(length: u64, h: Header) -> JudgedHeader
+fn judge_fields(length: u64, h: Header) -> Result<Header, Refusal>
     ensures { result ≡ judged_fields length h }
 {
     if !selection_allowed(h) {
-        return JudgedHeader::BadHeader(Refusal::Selection);
+        return Err(Refusal::Selection);
     }
     if !geometry_allowed(length, h) {
-        return JudgedHeader::BadHeader(Refusal::Geometry);
+        return Err(Refusal::Geometry);
     }
-    JudgedHeader::GoodHeader(h)
+    Ok(h)
 }
 
 // 2, then 3 and 4, of an image's length and the header's 256 bytes.
-pub(crate) fn judge_header(length: u64, head: &[u8]) -> JudgedHeader
+pub(crate) fn judge_header(length: u64, head: &[u8]) -> Result<Header, Refusal>
     ensures { result ≡ judged_header length head.now }
 {
     if opens_as(head, Kind::Disa) {
@@ -154,6 +157,6 @@ pub(crate) fn judge_header(length: u64, head: &[u8]) -> JudgedHeader
     } else if opens_as(head, Kind::Diff) {
         judge_fields(length, diff_header(head))
     } else {
-        JudgedHeader::BadHeader(Refusal::Format)
+        Err(Refusal::Format)
     }
 }

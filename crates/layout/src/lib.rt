@@ -2,6 +2,7 @@
 #![tactic(auto)]
 
 use number::{Level, Range};
+use std::fmt;
 
 // Where the header starts, and where the first 0x200 bytes end, with the header's end.
 pub const HEADER: usize = 0x100;
@@ -19,7 +20,7 @@ pub mod refusals;
 pub mod tables;
 
 // Why a call is refused, in the order of their numbers (refusals::number_of).
-#[derive(Clone, Copy)]
+#[derive(Clone, Copy, Debug, PartialEq, Eq)]
 pub enum Refusal {
     // The image's length.
     Length,
@@ -61,17 +62,25 @@ pub enum Refusal {
     DigestTooLong,
 }
 
-// What a call that needs nothing but a yes answers.
-#[derive(Clone, Copy)]
-pub enum Outcome {
-    Accepted,
-    Refused(Refusal),
-}
-
-#[derive(Clone, Copy)]
+#[derive(Clone, Copy, Debug, PartialEq, Eq)]
 pub enum Kind {
     Disa,
     Diff,
+}
+
+// Its name: the letters that a header of this kind opens with.
+impl fmt::Display for Kind {
+    ghost use Rattle.std.specs.Prelude.{Some};
+    ghost use Rattle.layout.specs.Headers.{kind_name};
+
+    ghost output = { λ kind. Some (kind_name kind) };
+
+    fn fmt<W: fmt::Write>(&self, f: &mut fmt::Formatter<W>) -> fmt::Result {
+        match self {
+            Kind::Disa => f.write_str("DISA"),
+            Kind::Diff => f.write_str("DIFF"),
+        }
+    }
 }
 
 // A partition's fields in the header: its descriptor within the table, and the partition within the image.
@@ -127,37 +136,10 @@ pub struct Partition {
     pub dpfs: Dpfs,
 }
 
-// Partition B, where there is one.
-#[derive(Clone, Copy)]
-pub enum Second {
-    Missing,
-    There(Partition),
-}
-
-// Every field that opening reads.
+// Every field that opening reads; `b` is partition B, where there is one.
 #[derive(Clone, Copy)]
 pub struct Container {
     pub header: Header,
     pub a: Partition,
-    pub b: Second,
-}
-
-#[derive(Clone, Copy)]
-pub enum Opened {
-    Valid(Container),
-    Refused(Refusal),
-}
-
-// A header after checks 2 to 4.
-#[derive(Clone, Copy)]
-pub enum JudgedHeader {
-    GoodHeader(Header),
-    BadHeader(Refusal),
-}
-
-// A descriptor after checks 6 and 7.
-#[derive(Clone, Copy)]
-pub enum JudgedPartition {
-    GoodPartition(Partition),
-    BadPartition(Refusal),
+    pub b: Option<Partition>,
 }

@@ -4,6 +4,7 @@ ghost use Rattle.layout.specs.Refusals.{refuses};
 
 use super::Refusal;
 
+// By a name of its own, and no `From`: the C interface hands out two numbers of a refusal, and a conversion would not say which.
 pub fn number_of(r: Refusal) -> u64
     ensures { result ≡ (refuses r).number }
 {

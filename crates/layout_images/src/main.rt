@@ -6,62 +6,40 @@ ghost use Rattle.std.specs.Prelude.{◌≤◌, length};
 
 use layout::opening::open;
 use layout::refusals::number_of;
-use layout::{Header, Kind, Opened};
-use number::fields::field4;
 use std::io;
 use std::io::Read;
 
-fn print_number(rt: &impl Print, n: u64) -> io::Result<()> {
-    print!(rt; "{n}")
-}
-
-fn print_kind(rt: &impl Print, kind: Kind) -> io::Result<()> {
-    match kind {
-        Kind::Disa => print!(rt; "0 DISA "),
-        Kind::Diff => print!(rt; "0 DIFF "),
-    }
-}
-
-fn print_header(rt: &impl Print, h: Header) -> io::Result<()> {
-    let kind = h.kind;
-    print_kind(rt, kind)?;
-    print_number(rt, h.count as u64)?;
-    print!(rt; " ")?;
-    print_number(rt, h.flag as u64)
-}
-
 fn answer(rt: &impl Print, image: &[u8]) -> io::Result<()> {
     match open(image) {
-        Opened::Valid(c) => print_header(rt, c.header)?,
-        Opened::Refused(r) => print_number(rt, number_of(r))?,
+        Ok(c) => {
+            let h = c.header;
+            println!(rt; "0 {} {} {}", h.kind, h.count, h.flag)
+        }
+        Err(r) => println!(rt; "{}", number_of(r)),
     }
-    println!(rt;)
 }
 
 fn answer_all(rt: &impl Print, input: &[u8]) -> io::Result<()> {
-    let mut at = 0;
-    while at < input.len() {
-        let size = field4(input, at) as usize;
-        let left = input.len() - at;
-        if left < 4 {
-            return Ok(());
-        }
-        if left - 4 < size {
-            return Ok(());
-        }
-        let start = at + 4;
-        let end = start + size;
-        answer(rt, &input[start..end])?;
-        at = end;
+    let mut rest = input;
+    // A `while`: each turn goes on by as many bytes as the image has that stands there.
+    while let Some((size, after)) = rest.split_first_chunk::<4>() {
+        let size = u32::from_le_bytes(*size) as usize;
+        let Some((image, next)) = after.split_at_checked(size) else {
+            break;
+        };
+        answer(rt, image)?;
+        rest = next;
     }
     Ok(())
 }
 
 // Takes bytes until the buffer is full, the input ends or a read fails, and says how many.
+// (Another program has the like: a crate for this one function would be no plainer.)
 fn take_input(input: &mut impl Read, buffer: &mut [u8]) -> usize
     ensures { result ≤ length buffer.new }
 {
     let mut n = 0;
+    // A `while`: each turn goes on by as many bytes as the read gave.
     while n < buffer.len() {
         let Ok(more) = input.read(&mut buffer[n..]) else {
             break;

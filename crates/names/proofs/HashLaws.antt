@@ -2,21 +2,19 @@
 use mathlib.Core.Path.{◌≡◌, refl, sym, ap, ap₂, ◌∙◌}
 use mathlib.Core.Bool.{Bool, false, cond, ◌&&◌}
 use mathlib.Core.List.{List}
-use Prim.Native.Nat.{ℕ, suc, ◌+◌, ◌*◌, ◌%◌, ◌^◌}
-use lib.Bits.{bit_xor}
+use Prim.Native.Nat.{ℕ, suc, ◌+◌, ◌*◌}
 use lib.Dec.{eqb}
 use lib.ListN.{get_or}
 use borrow.Author.Tests.{eq-eqb, ne_eqb}
+use Rattle.std.specs.Prelude.{Result, Ok, Some, None}
+use Rattle.names.specs.declared.EntryError.{EntryError}
 use Rattle.number.specs.Fields.{le32}
 use Rattle.number.specs.Bytes.{bytes, same_bytes}
 use Rattle.names.specs.declared.Save.{Save}
-use Rattle.names.specs.declared.Reach.{Reach}
-use Rattle.names.specs.declared.Search.TheVariants as search
-use Rattle.names.specs.declared.Link.TheVariants as link
 use Rattle.names.specs.Entries.{admit, read_at, place}
-use Rattle.names.specs.Searching.{round, rounds, bucket, named, next_in_bucket, linked, link_at, chain_at, found}
+use Rattle.names.specs.Searching.{goes, ends, round, rounds, bucket, named, next_in_bucket, linked, link_at, chain_at, found}
 
-rounds_none : (g : ℕ) (n : List ℕ) → g ≡ rounds g n 0
+pub rounds_none : (g : ℕ) (n : List ℕ) → g ≡ rounds g n 0
 unfolding rounds
 rounds_none g n = refl
 
@@ -24,15 +22,6 @@ pub round_is : (g h : ℕ) (n : List ℕ) (i a b c d r : ℕ) → h ≡ rounds g
     → d ≡ get_or n (4 * i + 3) 0 → r ≡ round h a b c d → r ≡ rounds g n (suc i)
 unfolding rounds
 round_is g h n i a b c d r e p q s t u = cc
-
-pub bucket_is : (n : List ℕ) (parent word count a b c d : ℕ) → word ≡ parent % 2 ^ 32 → ((g : ℕ) → bit_xor word 0x091A2B3C ≡ rounds g n 0 → a ≡ rounds g n 1)
-    → ((g : ℕ) → a ≡ rounds g n 1 → b ≡ rounds g n 2) → ((g : ℕ) → b ≡ rounds g n 2 → c ≡ rounds g n 3) → ((g : ℕ) → c ≡ rounds g n 3 → d ≡ rounds g n 4)
-    → d % count ≡ bucket n parent count
-unfolding bucket
-bucket_is n parent word count a b c d w p q r s =
-    let g = bit_xor word 0x091A2B3C in
-    ap (λ (x : ℕ). x % count) (s g (r g (q g (p g (rounds_none g n)))))
-    ∙ ap (λ (x : ℕ). rounds (bit_xor x 0x091A2B3C) n 4 % count) w
 
 -- the entry at its place, as the code compares it
 pub named_is : (s : Save) (level4 : List ℕ) (parent : ℕ) (wanted own : List ℕ) (f at field : ℕ) (same : Bool) → at ≡ place s.files f
@@ -43,21 +32,21 @@ named_is s level4 parent wanted own f at field same p e o b =
     (b ∙ ap (λ (l : List ℕ). same_bytes l wanted) (o ∙ ap (λ (x : ℕ). bytes (λ (y : ℕ). get_or level4 y 0) (x + 4) 16) p))
 
 module _ (s : Save) (level4 : List ℕ) (stands : List Bool) (parent : ℕ) (wanted : List ℕ) (f : ℕ) where
-  pub link_zero : f ≡ 0 → link.Last search.Nothing ≡ link_at s level4 stands parent wanted false f
+  pub link_zero : f ≡ 0 → ends (Ok None) ≡ link_at s level4 stands parent wanted false f
   unfolding link_at
-  link_zero e = sym (ap (λ (b : Bool). cond b (link.Last search.Nothing) (linked s level4 stands parent wanted (admit stands s.log s.files false f) f)) (eq-eqb f 0 e))
+  link_zero e = sym (ap (λ (b : Bool). cond b (ends (Ok None)) (linked s level4 stands parent wanted (admit stands s.log s.files false f) f)) (eq-eqb f 0 e))
 
-  pub link_is : (f ≡ 0 → ⊥) → (a : Reach) → admit stands s.log s.files false f ≡ a → linked s level4 stands parent wanted a f ≡ link_at s level4 stands parent wanted false f
+  pub link_is : (f ≡ 0 → ⊥) → (a : Result ℕ EntryError) → admit stands s.log s.files false f ≡ a → linked s level4 stands parent wanted a f ≡ link_at s level4 stands parent wanted false f
   unfolding link_at
   link_is z a e =
-      sym (ap (λ (b : Bool). cond b (link.Last search.Nothing) (linked s level4 stands parent wanted (admit stands s.log s.files false f) f)) (ne_eqb f 0 z)
-      ∙ ap (λ (r : Reach). linked s level4 stands parent wanted r f) e)
+      sym (ap (λ (b : Bool). cond b (ends (Ok None)) (linked s level4 stands parent wanted (admit stands s.log s.files false f) f)) (ne_eqb f 0 z)
+      ∙ ap (λ (r : Result ℕ EntryError). linked s level4 stands parent wanted r f) e)
 
   pub link_named : (t : Bool) → named s level4 parent wanted f ≡ t
-      → cond t (link.Last (search.File f)) (link.Next (next_in_bucket s level4 f)) ≡ cond (named s level4 parent wanted f) (link.Last (search.File f)) (link.Next (next_in_bucket s level4 f))
-  link_named t e = sym (ap (λ (b : Bool). cond b (link.Last (search.File f)) (link.Next (next_in_bucket s level4 f))) e)
+      → cond t (ends (Ok (Some f))) (goes (next_in_bucket s level4 f)) ≡ cond (named s level4 parent wanted f) (ends (Ok (Some f))) (goes (next_in_bucket s level4 f))
+  link_named t e = sym (ap (λ (b : Bool). cond b (ends (Ok (Some f))) (goes (next_in_bucket s level4 f))) e)
 
-pub found_is : (s : Save) (level4 : List ℕ) (stands : List Bool) (parent : ℕ) (wanted : List ℕ) (b : ℕ) (r a : Reach) → b ≡ bucket wanted parent s.buckets
+pub found_is : (s : Save) (level4 : List ℕ) (stands : List Bool) (parent : ℕ) (wanted : List ℕ) (b : ℕ) (r a : Result ℕ EntryError) → b ≡ bucket wanted parent s.buckets
     → r ≡ read_at stands s.log (s.hash + 4 * b) 4 → r ≡ a → chain_at s level4 stands parent wanted a ≡ found s level4 stands parent wanted
 unfolding found
 found_is s level4 stands parent wanted b r a e h q =

@@ -2,29 +2,24 @@
 use mathlib.Core.Path.{◌≡◌, refl, sym, ap, ap₂, subst, ◌∙◌}
 use mathlib.Core.Bool.{Bool, true, false, not, cond, ◌&&◌, true≢false}
 use mathlib.Core.List.{List}
-use Prim.Native.Nat.{ℕ, ◌+◌, ◌-◌, ◌*◌, ◌^◌, ◌≤◌, ◌<◌}
+use Prim.Native.Nat.{ℕ, ◌+◌, ◌-◌, ◌*◌, ◌≤◌, ◌<◌}
 use native.Mathlib.Omega.{arith}
-use native.Mathlib.Nat.{mul-le-mul, pos_of_ne-zero}
+use native.Mathlib.Nat.{pos_of_ne-zero}
 use lib.Dec.{eqb, ltb}
 use lib.ListN.{length, take}
 use borrow.Author.Tests.{leb-true, eqb-false, lt-leb, lt-ltb, le-ltb}
+use Rattle.std.specs.Prelude.{Result, Ok, Err}
+use Rattle.names.specs.declared.EntryError.{EntryError}
+use Rattle.names.specs.declared.SaveError.{SaveError}
+use Rattle.names.specs.declared.SaveError.TheVariants as save
 use Rattle.number.specs.Fields.{le32, le64}
 use Rattle.number.specs.Bytes.{same_bytes}
 use Rattle.number.specs.Ranges.{inside}
 use Rattle.number.proofs.Tests.{leb_same, and_left, and_right}
-use Rattle.names.specs.declared.Table.{Table}
 use Rattle.names.specs.declared.Save.{Save}
-use Rattle.names.specs.declared.Reach.{Reach}
-use Rattle.names.specs.declared.Reach.TheVariants as reach
-use Rattle.names.specs.declared.SaveOpened.{SaveOpened}
-use Rattle.names.specs.declared.SaveOpened.TheVariants as opened
 use Rattle.names.specs.Entries.{read_at}
 use Rattle.names.specs.Opening.{magic, header_of, table_place, save_of, hash_inside, table_inside, well_formed, read_then, entries_read, judged_header, open_save}
 use Rattle.names.specs.Walks.{Listable, Searchable}
-
--- the product of two 32-bit words fits
-pub words_mul : (a b : ℕ) → a < 2 ^ 32 → b < 2 ^ 32 → a * b < 2 ^ 64
-words_mul a b h k = omega (arith, mul-le-mul {n₁ = a} {m₁ = b} {n₂ = 0xFFFFFFFF} {m₂ = 0xFFFFFFFF} (omega arith) (omega arith))
 
 pub skip_is : (header : List ℕ) (field start block : ℕ) → start ≡ le32 header field → block ≡ le32 header 0x24 → table_place header field ≡ le64 header 0x58 + start * block
 unfolding table_place
@@ -41,14 +36,6 @@ pub table_out : (header : List ℕ) (size field n region skip : ℕ) → region 
     → false ≡ table_inside header size field n
 unfolding table_inside inside
 table_out header size field n region skip p q l = sym (lt-leb (table_place header field + n) size (omega arith))
-
-abbrev make : (place size count max : ℕ) → Table
-make place size count max = record { place = place; size = size; count = count; max = max }
-
-pub table_is : (header level4 : List ℕ) (field size max place count : ℕ) → place ≡ table_place header field → count ≡ le32 level4 place
-    → ◌≡◌ {A = Table} (record { place = place; size = size; count = count; max = max })
-    (record { place = table_place header field; size = size; count = le32 level4 (table_place header field); max = max })
-table_is header level4 field size max place count e c = ap₂ (λ (x y : ℕ). make x size y max) e (c ∙ ap (le32 level4) e)
 
 -- what a well-formed header gives
 pub record Formed (header : List ℕ) (size : ℕ) : Type 0 where
@@ -80,19 +67,9 @@ formed header size h =
 
 -- ---- opening, step by step
 
-pub then_at : (r : Reach) (at : ℕ) (rest : SaveOpened) → r ≡ reach.At at → rest ≡ read_then r rest
-then_at r at rest e = sym (ap (λ (x : Reach). read_then x rest) e)
-
-pub then_invalid : (r : Reach) (rest : SaveOpened) → r ≡ reach.Invalid → opened.NoSave ≡ read_then r rest
-then_invalid r rest e = sym (ap (λ (x : Reach). read_then x rest) e)
-
-pub then_unverified : (r : Reach) (b : ℕ) (rest : SaveOpened) → r ≡ reach.Unverified b → opened.Unverified b ≡ read_then r rest
-then_unverified r b rest e = sym (ap (λ (x : Reach). read_then x rest) e)
-
-then_valid : (r : Reach) (o : SaveOpened) (s : Save) → read_then r o ≡ opened.Valid s → o ≡ opened.Valid s
-then_valid (reach.At at) o s h = h
-then_valid reach.Invalid o s h = let z : ◌≡◌ {A = ℕ} 0 1 = cc in absurd (omega arith)
-then_valid (reach.Unverified b) o s h = let z : ◌≡◌ {A = ℕ} 0 1 = cc in absurd (omega arith)
+then_valid : (r : Result ℕ EntryError) (o : Result Save SaveError) (s : Save) → read_then r o ≡ Ok s → o ≡ Ok s
+then_valid (Ok at) o s h = h
+then_valid (Err x) o s h = let z : ◌≡◌ {A = ℕ} 0 1 = cc in absurd (omega arith)
 
 module _ (level4 : List ℕ) (stands : List Bool) (log size : ℕ) (sized : length level4 ≡ size) where
   pub judged_yes : (header : List ℕ) (w : Bool) (s : Save) → header ≡ header_of level4 → w ≡ well_formed header size → w ≡ true → s ≡ save_of header level4 log
@@ -100,50 +77,50 @@ module _ (level4 : List ℕ) (stands : List Bool) (log size : ℕ) (sized : leng
   unfolding judged_header
   judged_yes header w s k h t e =
       ap (entries_read stands) (e ∙ ap (λ (x : List ℕ). save_of x level4 log) k)
-      ∙ sym (ap (λ (b : Bool). cond b (entries_read stands (save_of (header_of level4) level4 log)) opened.NoSave) (sym (h ∙ ap₂ well_formed k (sym sized)) ∙ t))
+      ∙ sym (ap (λ (b : Bool). cond b (entries_read stands (save_of (header_of level4) level4 log)) (Err save.NoSave)) (sym (h ∙ ap₂ well_formed k (sym sized)) ∙ t))
 
-  pub judged_no : (header : List ℕ) (w : Bool) → header ≡ header_of level4 → w ≡ well_formed header size → w ≡ false → opened.NoSave ≡ judged_header level4 stands log
+  pub judged_no : (header : List ℕ) (w : Bool) → header ≡ header_of level4 → w ≡ well_formed header size → w ≡ false → Err save.NoSave ≡ judged_header level4 stands log
   unfolding judged_header
   judged_no header w k h t =
-      sym (ap (λ (b : Bool). cond b (entries_read stands (save_of (header_of level4) level4 log)) opened.NoSave) (sym (h ∙ ap₂ well_formed k (sym sized)) ∙ t))
+      sym (ap (λ (b : Bool). cond b (entries_read stands (save_of (header_of level4) level4 log)) (Err save.NoSave)) (sym (h ∙ ap₂ well_formed k (sym sized)) ∙ t))
 
-  pub open_short : size < 0x88 → opened.NoSave ≡ open_save level4 stands log
+  pub open_short : size < 0x88 → Err save.NoSave ≡ open_save level4 stands log
   unfolding open_save
-  open_short h = sym (ap (λ (t : Bool). cond t opened.NoSave (read_then (read_at stands log 0 0x88) (judged_header level4 stands log))) (lt-ltb (length level4) 0x88 (omega (arith, sized))))
+  open_short h = sym (ap (λ (t : Bool). cond t (Err save.NoSave) (read_then (read_at stands log 0 0x88) (judged_header level4 stands log))) (lt-ltb (length level4) 0x88 (omega (arith, sized))))
 
   -- the header is read: the answer is what follows from that
-  pub open_long : (r a : Reach) → 0x88 ≤ size → r ≡ read_at stands log 0 0x88 → r ≡ a → read_then a (judged_header level4 stands log) ≡ open_save level4 stands log
+  pub open_long : (r a : Result ℕ EntryError) → 0x88 ≤ size → r ≡ read_at stands log 0 0x88 → r ≡ a → read_then a (judged_header level4 stands log) ≡ open_save level4 stands log
   unfolding open_save
   open_long r a h e q =
-      ap (λ (x : Reach). read_then x (judged_header level4 stands log)) (sym q ∙ e)
-      ∙ sym (ap (λ (t : Bool). cond t opened.NoSave (read_then (read_at stands log 0 0x88) (judged_header level4 stands log))) (le-ltb (length level4) 0x88 (omega (arith, sized))))
+      ap (λ (x : Result ℕ EntryError). read_then x (judged_header level4 stands log)) (sym q ∙ e)
+      ∙ sym (ap (λ (t : Bool). cond t (Err save.NoSave) (read_then (read_at stands log 0 0x88) (judged_header level4 stands log))) (le-ltb (length level4) 0x88 (omega (arith, sized))))
 
   -- an opened save has a well-formed header
-  open_valid : (s : Save) → open_save level4 stands log ≡ opened.Valid s → (well_formed (header_of level4) size ≡ true) × (save_of (header_of level4) level4 log ≡ s)
+  open_valid : (s : Save) → open_save level4 stands log ≡ Ok s → (well_formed (header_of level4) size ≡ true) × (save_of (header_of level4) level4 log ≡ s)
   unfolding open_save judged_header
   open_valid s h = long (ltb (length level4) 0x88) h
     where
-      good : (b : Bool) → well_formed (header_of level4) (length level4) ≡ b → cond b (entries_read stands (save_of (header_of level4) level4 log)) opened.NoSave ≡ opened.Valid s
+      good : (b : Bool) → well_formed (header_of level4) (length level4) ≡ b → cond b (entries_read stands (save_of (header_of level4) level4 log)) (Err save.NoSave) ≡ Ok s
           → (well_formed (header_of level4) size ≡ true) × (save_of (header_of level4) level4 log ≡ s)
       good true e h =
-          let q = then_valid (read_at stands log (table_place (header_of level4) 0x78) 0x30) (opened.Valid (save_of (header_of level4) level4 log)) s
-          (then_valid (read_at stands log (table_place (header_of level4) 0x68) 0x28) (read_then (read_at stands log (table_place (header_of level4) 0x78) 0x30) (opened.Valid (save_of (header_of level4) level4 log))) s h) in
+          let q = then_valid (read_at stands log (table_place (header_of level4) 0x78) 0x30) (Ok (save_of (header_of level4) level4 log)) s
+          (then_valid (read_at stands log (table_place (header_of level4) 0x68) 0x28) (read_then (read_at stands log (table_place (header_of level4) 0x78) 0x30) (Ok (save_of (header_of level4) level4 log))) s h) in
           (ap (well_formed (header_of level4)) (sym sized) ∙ e, cc)
       good false e h = let z : ◌≡◌ {A = ℕ} 0 1 = cc in absurd (omega arith)
 
-      long : (b : Bool) → cond b opened.NoSave (read_then (read_at stands log 0 0x88) (judged_header level4 stands log)) ≡ opened.Valid s
+      long : (b : Bool) → cond b (Err save.NoSave) (read_then (read_at stands log 0 0x88) (judged_header level4 stands log)) ≡ Ok s
           → (well_formed (header_of level4) size ≡ true) × (save_of (header_of level4) level4 log ≡ s)
       long true h = let z : ◌≡◌ {A = ℕ} 0 1 = cc in absurd (omega arith)
       long false h =
           good (well_formed (header_of level4) (length level4)) refl (then_valid (read_at stands log 0 0x88) (judged_header level4 stands log) s h)
 
-  pub valid_listable : (s : Save) → open_save level4 stands log ≡ opened.Valid s → size ≤ 0x2000000 → Listable s log size
+  pub valid_listable : (s : Save) → open_save level4 stands log ≡ Ok s → size ≤ 0x2000000 → Listable s log size
   valid_listable s h n =
       let v = open_valid s h in
       let f = formed (header_of level4) size v.0 in
       subst (λ (x : Save). Listable x log size) v.1 (record { logs = refl; folders = f.folders; files = f.files; folder = omega arith; file = omega arith; small = n })
 
-  pub valid_searchable : (s : Save) → open_save level4 stands log ≡ opened.Valid s
+  pub valid_searchable : (s : Save) → open_save level4 stands log ≡ Ok s
       → Searchable s log size × (0 < s.buckets) × (s.hash + 4 * s.buckets ≤ size)
   valid_searchable s h =
       let v = open_valid s h in
@@ -157,14 +134,3 @@ pub entries_ask : (header level4 : List ℕ) (log size : ℕ) (s : Save) → s �
 entries_ask header level4 log size s e w =
     let f = formed header size w in
     rw e (refl, omega (arith, f.folders), omega (arith, f.files))
-
--- the save that is made of its parts
-pub save_is : (header level4 : List ℕ) (log hash buckets a b : ℕ) (folders files : Table) → hash ≡ le64 header 0x38 → buckets ≡ le32 header 0x40
-    → a ≡ le32 header 0x70 → b ≡ le32 header 0x80
-    → folders ≡ record { place = table_place header 0x68; size = 0x28; count = le32 level4 (table_place header 0x68); max = a + 2 }
-    → files ≡ record { place = table_place header 0x78; size = 0x30; count = le32 level4 (table_place header 0x78); max = b + 1 }
-    → ◌≡◌ {A = Save} (record { log = log; hash = hash; buckets = buckets; folders = folders; files = files }) (save_of header level4 log)
-save_is header level4 log hash buckets a b folders files p q r s t u =
-    let f = t ∙ ap (λ (x : ℕ). make (table_place header 0x68) 0x28 (le32 level4 (table_place header 0x68)) (x + 2)) r in
-    let g = u ∙ ap (λ (x : ℕ). make (table_place header 0x78) 0x30 (le32 level4 (table_place header 0x78)) (x + 1)) s in
-    λ i. record { log = log; hash = p i; buckets = q i; folders = f i; files = g i }

@@ -8,9 +8,11 @@ use native.Mathlib.Omega.{arith}
 use native.Mathlib.Decide.{ℕ_discrete}
 use lib.Dec.{eqb, ltb}
 use borrow.Author.Tests.{eqb-true, eqb-false, eq-eqb}
+use Rattle.std.specs.Prelude.{Ok, Err}
+use Rattle.names.specs.declared.EntryError.TheVariants as entry
 use Rattle.names.specs.declared.Save.{Save}
 use Rattle.names.specs.Entries.{admit, sibling, first_folder, first_file, next_file}
-use Rattle.names.specs.Listing.{Entry, folder, file, listed, invalid, seen_folder, seen_file, next, meet_folder, meet_file, files_in, files, folder_over, folders_in, folders, folder_at, listing}
+use Rattle.names.specs.Listing.{Entry, folder, file, seen_folder, seen_file, next, meet_folder, meet_file, files_in, files, folder_over, folders_in, folders, folder_at, listing}
 use Rattle.names.specs.Reachable.{Subfolder, of_root, below, beside, Folder, File, inside, after, Once, Complete}
 use Rattle.names.proofs.EntryLaws.{admit_at}
 use Rattle.names.proofs.FuelLaws.{next_listed, joins_listed}
@@ -54,12 +56,12 @@ module _ (s : Save) (level4 : List ℕ) (stands : List Bool) where
     folder_only : ((x : ℕ) → seen_folder met x ≡ true → Folder s level4 x) → (x : ℕ) → seen_folder m x ≡ true → Folder s level4 x
     file_only : (f ≡ 0 ⊎ File s level4 f) → ((x : ℕ) → seen_file met x ≡ true → File s level4 x) → (x : ℕ) → seen_file m x ≡ true → File s level4 x
 
-  file_new : (f : ℕ) (met k : List Entry) → meet_file s level4 stands f met ≡ listed k → (k ≡ file f ∷ met) × (seen_file met f ≡ false)
+  file_new : (f : ℕ) (met k : List Entry) → meet_file s level4 stands f met ≡ Ok k → (k ≡ file f ∷ met) × (seen_file met f ≡ false)
   file_new f met k h =
       let j = joins_listed (admit stands s.log s.files (seen_file met f) f) (file f ∷ met) k h in
       (sym j.2, (admit_at stands s.log s.files (seen_file met f) f j.0 j.1).0)
 
-  folder_new : (e : ℕ) (met k : List Entry) → meet_folder s level4 stands e met ≡ listed k → (k ≡ folder e ∷ met) × (seen_folder met e ≡ false)
+  folder_new : (e : ℕ) (met k : List Entry) → meet_folder s level4 stands e met ≡ Ok k → (k ≡ folder e ∷ met) × (seen_folder met e ≡ false)
   folder_new e met k h =
       let j = joins_listed (admit stands s.log s.folders (seen_folder met e) e) (folder e ∷ met) k h in
       (sym j.2, (admit_at stands s.log s.folders (seen_folder met e) e j.0 j.1).0)
@@ -93,13 +95,13 @@ module _ (s : Save) (level4 : List ℕ) (stands : List Bool) where
             r.file_only (or_next f here) (λ x h. ⊎_elim (λ e. rw (eqb-true x f e) here) (λ o. all x o) (or_cases (eqb x f) (seen_file met x) h));
       }
 
-  files_filed : (n f : ℕ) (met m : List Entry) → files_in s level4 stands n f met ≡ listed m → Filed f met m
+  files_filed : (n f : ℕ) (met m : List Entry) → files_in s level4 stands n f met ≡ Ok m → Filed f met m
   unfolding files_in
   files_filed zero f met m h = let z : ◌≡◌ {A = ℕ} 0 1 = cc in absurd (omega arith)
   files_filed (suc n) f met m h = go (eqb f 0) refl h (λ k j. files_filed n (next_file s level4 f) k m j)
     where
-      go : (b : Bool) → eqb f 0 ≡ b → cond b (listed met) (next (meet_file s level4 stands f met) (files_in s level4 stands n (next_file s level4 f))) ≡ listed m
-          → ((k : List Entry) → files_in s level4 stands n (next_file s level4 f) k ≡ listed m → Filed (next_file s level4 f) k m) → Filed f met m
+      go : (b : Bool) → eqb f 0 ≡ b → cond b (Ok met) (next (meet_file s level4 stands f met) (files_in s level4 stands n (next_file s level4 f))) ≡ Ok m
+          → ((k : List Entry) → files_in s level4 stands n (next_file s level4 f) k ≡ Ok m → Filed (next_file s level4 f) k m) → Filed f met m
       go true e h r =
           let q : met ≡ m = cc in
           rw q (record { grown = same m; first = inl (eqb-true f 0 e); folder_only = λ all. all; file_only = λ from all. all })
@@ -187,13 +189,13 @@ module _ (s : Save) (level4 : List ℕ) (stands : List Bool) where
       }
 
   over_opened : (n depth e : ℕ) (met m : List Entry)
-      → ((d c : ℕ) (k : List Entry) → seen_folder k 1 ≡ true → folders_in s level4 stands n d c k ≡ listed m → Walked c k m) → seen_folder (folder e ∷ met) 1 ≡ true
-      → folder_over s level4 stands (folders_in s level4 stands n) depth e met ≡ listed m → Opened e met m
+      → ((d c : ℕ) (k : List Entry) → seen_folder k 1 ≡ true → folders_in s level4 stands n d c k ≡ Ok m → Walked c k m) → seen_folder (folder e ∷ met) 1 ≡ true
+      → folder_over s level4 stands (folders_in s level4 stands n) depth e met ≡ Ok m → Opened e met m
   unfolding folder_over files
   over_opened n depth e met m r root h = go (ltb 1000 depth) h
     where
-      go : (b : Bool) → cond b invalid (next (meet_folder s level4 stands e met)
-          (λ own. next (files_in s level4 stands (suc s.files.max) (first_file s level4 e) own) (folders_in s level4 stands n (suc depth) (first_folder s level4 e)))) ≡ listed m → Opened e met m
+      go : (b : Bool) → cond b (Err entry.Invalid) (next (meet_folder s level4 stands e met)
+          (λ own. next (files_in s level4 stands (suc s.files.max) (first_file s level4 e) own) (folders_in s level4 stands n (suc depth) (first_folder s level4 e)))) ≡ Ok m → Opened e met m
       go true h = let z : ◌≡◌ {A = ℕ} 0 1 = cc in absurd (omega arith)
       go false h =
           let a = next_listed (meet_folder s level4 stands e met)
@@ -260,14 +262,14 @@ module _ (s : Save) (level4 : List ℕ) (stands : List Bool) where
   unfolding seen_file
   file_next m o f h = ⊎_elim (λ k. absurd (true≢false (sym k))) (λ n. n) (o.new_file f h)
 
-  folders_walked : (n depth e : ℕ) (met m : List Entry) → seen_folder met 1 ≡ true → folders_in s level4 stands n depth e met ≡ listed m → Walked e met m
+  folders_walked : (n depth e : ℕ) (met m : List Entry) → seen_folder met 1 ≡ true → folders_in s level4 stands n depth e met ≡ Ok m → Walked e met m
   unfolding folders_in
   folders_walked zero depth e met m root h = let z : ◌≡◌ {A = ℕ} 0 1 = cc in absurd (omega arith)
   folders_walked (suc n) depth e met m root h = go (eqb e 0) refl h (λ d c k j. folders_walked n d c k j)
     where
       go : (b : Bool) → eqb e 0 ≡ b
-          → cond b (listed met) (next (folder_over s level4 stands (folders_in s level4 stands n) depth e met) (folders_in s level4 stands n depth (sibling s level4 e))) ≡ listed m
-          → ((d c : ℕ) (k j : List Entry) → seen_folder k 1 ≡ true → folders_in s level4 stands n d c k ≡ listed j → Walked c k j) → Walked e met m
+          → cond b (Ok met) (next (folder_over s level4 stands (folders_in s level4 stands n) depth e met) (folders_in s level4 stands n depth (sibling s level4 e))) ≡ Ok m
+          → ((d c : ℕ) (k j : List Entry) → seen_folder k 1 ≡ true → folders_in s level4 stands n d c k ≡ Ok j → Walked c k j) → Walked e met m
       go true q h r =
           let w : met ≡ m = cc in
           rw w (record { grown = same m; first = inl (eqb-true e 0 q); only = λ from fs gs. (fs, gs) })
@@ -299,13 +301,13 @@ module _ (s : Save) (level4 : List ℕ) (stands : List Bool) where
       let h = file_seen m o f d in
       ⊎_elim (λ n. absurd (z (q ∙ n))) (λ t. ap (seen_file m) q ∙ t) (file_next m o f h)
 
-  root_opened : (m : List Entry) → listing s level4 stands ≡ listed m → Opened 1 [] m
+  root_opened : (m : List Entry) → listing s level4 stands ≡ Ok m → Opened 1 [] m
   unfolding listing folder_at folders
   root_opened m h =
       over_opened (suc s.folders.max) 0 1 [] m (λ d c k. folders_walked (suc s.folders.max) d c k m) root_first h
 
   -- a listing with names is complete
-  pub listing_complete : (m : List Entry) → listing s level4 stands ≡ listed m → Complete s level4 m
+  pub listing_complete : (m : List Entry) → listing s level4 stands ≡ Ok m → Complete s level4 m
   listing_complete m h =
       let o = root_opened m h in
       let p = o.only (inl refl) none_folder none_file in

@@ -1,27 +1,22 @@
 -- The code's walk, step by step. Assumes nothing.
 use mathlib.Core.Path.{◌≡◌, refl, sym, ap, ap₂, ◌∙◌}
 use mathlib.Core.Bool.{Bool, cond, ◌||◌}
-use mathlib.Core.Logic.{⊎_elim}
 use mathlib.Core.List.{List, [], ◌∷◌, ◌++◌}
 use Prim.Native.Nat.{ℕ, suc, ◌+◌, ◌≤◌, ◌<◌}
 use native.Mathlib.Omega.{arith}
 use lib.Dec.{eqb}
 use lib.ListN.{length, replicate, length-replicate}
 use native.Mathlib.Nat.{mul-le-mul_right}
-use types.Run.{OneOf}
-use denote.Enum.Declared.{tag_of}
-use Rattle.names.specs.contracts.Walked.{the_type}
+use Rattle.std.specs.Prelude.{Result, Ok, Err}
+use Rattle.names.specs.declared.EntryError.{EntryError}
+use Rattle.names.specs.declared.EntryError.TheVariants as entry
 use borrow.Author.Tests.{eq-eqb, ne_eqb, lt-ltb, le-ltb}
 use Rattle.names.specs.declared.Save.{Save}
 use Rattle.names.specs.declared.Table.{Table}
-use Rattle.names.specs.declared.Reach.{Reach}
-use Rattle.names.specs.declared.Reach.TheVariants as reach
-use Rattle.names.specs.declared.Walked.{Walked}
-use Rattle.names.specs.declared.Walked.TheVariants as walked
 use Rattle.number.specs.Marks.{marked, Marks}
 use Rattle.names.specs.Entries.{admit, name, sibling, first_folder, first_file, next_file}
-use Rattle.names.specs.Listing.{Entry, folder, file, Outcome, listed, invalid, unverified, seen_folder, seen_file, next, joins, meet_folder, meet_file, files, folders, folder_at, listing}
-use Rattle.names.specs.Records.{head, entry_record, put_record, laid, row_after}
+use Rattle.names.specs.Listing.{Entry, Outcome, folder, file, seen_folder, seen_file, next, joins, meet_folder, meet_file, files, folders, folder_at, listing}
+use Rattle.names.specs.Records.{head, entry_record, put_record, laid}
 use Rattle.names.specs.Walks.{met_by, leaves, answer_of, Holds, Leaves, Walks, unvisited, Goes, Fewer, Ready, Listable, Lays}
 use Rattle.number.proofs.MarkLaws.{left_fewer, left_le, zeros_unmarked}
 use Rattle.names.proofs.EntryLaws.{admit_at}
@@ -41,46 +36,23 @@ onward_start s level4 base walk first met folderMarks fileMarks row n c h = reco
 
 -- ---- answers
 
--- an answer that ends the walk
-abbrev pub Stops : Walked → Type 0
-Stops (walked.Met n) = ⊥
-Stops walked.Invalid = Unit {0}
-Stops (walked.Unverified b) = Unit {0}
-
-pub stops : (w : Walked) → OneOf (1 ∷ 2 ∷ []) (tag_of the_type w) → Stops w
-stops (walked.Met n) h = ⊎_elim (λ e. omega arith) (λ e. omega arith) h
-stops walked.Invalid h = tt
-stops (walked.Unverified b) h = tt
-
-pub stops_goes : (w : Walked) (n folders files folders' files' : ℕ) → Stops w → Goes n folders files w folders' files'
-stops_goes (walked.Met m) n folders files folders' files' h = absurd h
-stops_goes walked.Invalid n folders files folders' files' h = tt
-stops_goes (walked.Unverified b) n folders files folders' files' h = tt
-
-pub stops_fewer : (w : Walked) (t : Table) (e folders folders' : ℕ) → Stops w → Fewer t e folders w folders'
-stops_fewer (walked.Met m) t e folders folders' h = absurd h
-stops_fewer walked.Invalid t e folders folders' h = tt
-stops_fewer (walked.Unverified b) t e folders folders' h = tt
-
 -- a walk that goes on after another
-pub goes_on_lem : (w : Walked) (n folders files k folders₁ files₁ folders' files' : ℕ) → k + folders₁ + files₁ ≡ n + folders + files → folders₁ ≤ folders → files₁ ≤ files
+pub goes_on_lem : (w : Result ℕ EntryError) (n folders files k folders₁ files₁ folders' files' : ℕ) → k + folders₁ + files₁ ≡ n + folders + files → folders₁ ≤ folders → files₁ ≤ files
     → Goes k folders₁ files₁ w folders' files' → Goes n folders files w folders' files'
-goes_on_lem (walked.Met m) n folders files k folders₁ files₁ folders' files' c f g h = (omega (arith, h.0), omega (arith, h.1), omega (arith, h.2))
-goes_on_lem walked.Invalid n folders files k folders₁ files₁ folders' files' c f g h = tt
-goes_on_lem (walked.Unverified b) n folders files k folders₁ files₁ folders' files' c f g h = tt
+goes_on_lem (Ok m) n folders files k folders₁ files₁ folders' files' c f g h = (omega (arith, h.0), omega (arith, h.1), omega (arith, h.2))
+goes_on_lem (Err x) n folders files k folders₁ files₁ folders' files' c f g h = tt
 
-pub fewer_on : (w : Walked) (t : Table) (e folders k folders₁ files₁ folders' files' : ℕ) → folders₁ < folders → e < t.max
+pub fewer_on : (w : Result ℕ EntryError) (t : Table) (e folders k folders₁ files₁ folders' files' : ℕ) → folders₁ < folders → e < t.max
     → Goes k folders₁ files₁ w folders' files' → Fewer t e folders w folders'
-fewer_on (walked.Met m) t e folders k folders₁ files₁ folders' files' f l h = (omega (arith, h.1), l)
-fewer_on walked.Invalid t e folders k folders₁ files₁ folders' files' f l h = tt
-fewer_on (walked.Unverified b) t e folders k folders₁ files₁ folders' files' f l h = tt
+fewer_on (Ok m) t e folders k folders₁ files₁ folders' files' f l h = (omega (arith, h.1), l)
+fewer_on (Err x) t e folders k folders₁ files₁ folders' files' f l h = tt
 
 -- what is known of a walk whose answer is told
-pub goes_met : (w : Walked) (m n folders files folders' files' : ℕ) → w ≡ walked.Met m → Goes n folders files w folders' files'
+pub goes_met : (w : Result ℕ EntryError) (m n folders files folders' files' : ℕ) → w ≡ Ok m → Goes n folders files w folders' files'
     → (m + folders' + files' ≡ n + folders + files) × (folders' ≤ folders) × (files' ≤ files)
 goes_met w m n folders files folders' files' e h = rw e at h
 
-pub fewer_met : (w : Walked) (t : Table) (m e folders folders' : ℕ) → w ≡ walked.Met m → Fewer t e folders w folders' → (folders' < folders) × (e < t.max)
+pub fewer_met : (w : Result ℕ EntryError) (t : Table) (m e folders folders' : ℕ) → w ≡ Ok m → Fewer t e folders w folders' → (folders' < folders) × (e < t.max)
 fewer_met w t m e folders folders' q h = rw q at h
 
 pub ready_on : (s : Save) (log size : ℕ) (folderMarks fileMarks folderMarks' fileMarks' : List ℕ) (n k : ℕ) → Ready s log size folderMarks fileMarks n
@@ -103,7 +75,7 @@ ready_on s log size folderMarks fileMarks folderMarks' fileMarks' n k r f g c = 
 -- an entry was met: what that says of it, of the marks and of the row
 pub record Gained (stands : List Bool) (log : ℕ) (t : Table) (kind e n k : ℕ) (level4 marks row marks' row' : List ℕ) : Type 0 where
   pub at : ℕ
-  pub found : admit stands log t (marked marks e) e ≡ reach.At at
+  pub found : admit stands log t (marked marks e) e ≡ Ok at
   pub count : k ≡ n + 1
   pub inside : e < t.max
   pub fewer : unvisited t marks ≡ suc (unvisited t marks')
@@ -111,14 +83,14 @@ pub record Gained (stands : List Bool) (log : ℕ) (t : Table) (kind e n k : ℕ
   pub stored : row' ≡ put_record row n (head kind e ++ name t level4 e)
 
 gained_here : (stands : List Bool) (log : ℕ) (t : Table) (kind e n k : ℕ) (level4 marks row marks' row' : List ℕ)
-    → walked.Met k ≡ met_by (admit stands log t (marked marks e) e) n
+    → Ok k ≡ met_by (admit stands log t (marked marks e) e) n
     → leaves (admit stands log t (marked marks e) e) t kind e n level4 marks row marks' row'
     → Gained stands log t kind e n k level4 marks row marks' row'
 gained_here stands log t kind e n k level4 marks row marks' row' h l = go (admit stands log t (marked marks e) e) refl h l
   where
-    go : (a : Reach) → admit stands log t (marked marks e) e ≡ a → walked.Met k ≡ met_by a n → leaves a t kind e n level4 marks row marks' row'
+    go : (a : Result ℕ EntryError) → admit stands log t (marked marks e) e ≡ a → Ok k ≡ met_by a n → leaves a t kind e n level4 marks row marks' row'
         → Gained stands log t kind e n k level4 marks row marks' row'
-    go (reach.At at) q h l =
+    go (Ok at) q h l =
         let p = admit_at stands log t (marked marks e) e at q in
         record {
           at = at;
@@ -129,26 +101,25 @@ gained_here stands log t kind e n k level4 marks row marks' row' h l = go (admit
           marking = l.0;
           stored = l.1;
         }
-    go reach.Invalid q h l = let z : ◌≡◌ {A = ℕ} 0 1 = cc in absurd (omega arith)
-    go (reach.Unverified b) q h l = let z : ◌≡◌ {A = ℕ} 0 1 = cc in absurd (omega arith)
+    go (Err x) q h l = let z : ◌≡◌ {A = ℕ} 0 1 = cc in absurd (omega arith)
 
 -- the same where the save's logarithm, `own`, is level 4's
 pub gained : (stands : List Bool) (log own : ℕ) (t : Table) (kind e n k : ℕ) (level4 marks row marks' row' : List ℕ) → own ≡ log
-    → walked.Met k ≡ met_by (admit stands log t (marked marks e) e) n
+    → Ok k ≡ met_by (admit stands log t (marked marks e) e) n
     → leaves (admit stands log t (marked marks e) e) t kind e n level4 marks row marks' row'
     → Gained stands own t kind e n k level4 marks row marks' row'
 gained stands log own t kind e n k level4 marks row marks' row' q h l = rw q (gained_here stands log t kind e n k level4 marks row marks' row' h l)
 
-pub met_own : (stands : List Bool) (log own : ℕ) (t : Table) (again : Bool) (e n : ℕ) (w : Walked) → own ≡ log
-    → w ≡ met_by (admit stands log t again e) n → w ≡ met_by (admit stands own t again e) n
-met_own stands log own t again e n w q h = rw q h
+-- and of an entry that was not met
+pub met_own : (stands : List Bool) (log own : ℕ) (t : Table) (again : Bool) (e n : ℕ) (w : Result ℕ EntryError) (x : EntryError) → own ≡ log
+    → w ≡ met_by (admit stands log t again e) n → w ≡ Err x → Err x ≡ met_by (admit stands own t again e) n
+met_own stands log own t again e n w x q h k = rw q (sym k ∙ h)
 
 -- an entry that was not met ends the walk with the definition's refusal
-pub refused : (s : Save) (level4 base : List ℕ) (a : Reach) (n : ℕ) (w : Walked) (met : List Entry) (on : List Entry → Outcome) (folderMarks fileMarks row : List ℕ)
-    → w ≡ met_by a n → Stops w → Walks s level4 base (next (joins a met) on) w folderMarks fileMarks row
-refused s level4 base (reach.At at) n w met on folderMarks fileMarks row h stop = absurd (rw h at stop)
-refused s level4 base reach.Invalid n w met on folderMarks fileMarks row h stop = record { answer = h; state = tt }
-refused s level4 base (reach.Unverified b) n w met on folderMarks fileMarks row h stop = record { answer = h; state = tt }
+pub refused : (s : Save) (level4 base : List ℕ) (a : Result ℕ EntryError) (n : ℕ) (x : EntryError) (met : List Entry) (on : List Entry → Outcome) (folderMarks fileMarks row : List ℕ)
+    → Err x ≡ met_by a n → Walks s level4 base (next (joins a met) on) (Err x) folderMarks fileMarks row
+refused s level4 base (Ok at) n x met on folderMarks fileMarks row h = let z : ◌≡◌ {A = ℕ} 0 1 = cc in absurd (omega arith)
+refused s level4 base (Err y) n x met on folderMarks fileMarks row h = record { answer = h; state = tt }
 
 module _ (s : Save) (level4 : List ℕ) (stands : List Bool) (base : List ℕ) (folderMarks fileMarks row : List ℕ) where
   -- ---- files
@@ -173,29 +144,29 @@ module _ (s : Save) (level4 : List ℕ) (stands : List Bool) (base : List ℕ) (
     count = omega (arith, a.count, o.count);
     holds = file_held o.names f n k fileMarks' row' o.count o.holds a;
     rest = o.rest ∙ files_rule s level4 stands f o.names
-        ∙ ap (λ (t : Bool). cond t (listed o.names) (next (meet_file s level4 stands f o.names) (files s level4 stands (next_file s level4 f)))) (ne_eqb f 0 z)
-        ∙ ap (λ (r : Reach). next (joins r (file f ∷ o.names)) (files s level4 stands (next_file s level4 f)))
+        ∙ ap (λ (t : Bool). cond t (Ok o.names) (next (meet_file s level4 stands f o.names) (files s level4 stands (next_file s level4 f)))) (ne_eqb f 0 z)
+        ∙ ap (λ (r : Result ℕ EntryError). next (joins r (file f ∷ o.names)) (files s level4 stands (next_file s level4 f)))
         (ap (λ (t : Bool). admit stands s.log s.files t f) (sym (o.holds.files f)) ∙ a.found)
         ∙ ap (λ (x : ℕ). files s level4 stands x (file f ∷ o.names)) (sym e);
   }
 
-  pub file_stops : (first f n : ℕ) (met : List Entry) (w : Walked) (fileMarks' row' : List ℕ) → (f ≡ 0 → ⊥)
-      → w ≡ met_by (admit stands s.log s.files (marked fileMarks f) f) n → Stops w
+  pub file_stops : (first f n : ℕ) (met : List Entry) (x : EntryError) (fileMarks' row' : List ℕ) → (f ≡ 0 → ⊥)
+      → Err x ≡ met_by (admit stands s.log s.files (marked fileMarks f) f) n
       → Onward s level4 base (files s level4 stands) first met folderMarks fileMarks row f n
-      → Walks s level4 base (files s level4 stands first met) w folderMarks fileMarks' row'
-  file_stops first f n met w fileMarks' row' z h stop o =
+      → Walks s level4 base (files s level4 stands first met) (Err x) folderMarks fileMarks' row'
+  file_stops first f n met x fileMarks' row' z h o =
       let q = o.rest ∙ files_rule s level4 stands f o.names
-      ∙ ap (λ (t : Bool). cond t (listed o.names) (next (meet_file s level4 stands f o.names) (files s level4 stands (next_file s level4 f)))) (ne_eqb f 0 z)
+      ∙ ap (λ (t : Bool). cond t (Ok o.names) (next (meet_file s level4 stands f o.names) (files s level4 stands (next_file s level4 f)))) (ne_eqb f 0 z)
       ∙ ap (λ (t : Bool). next (joins (admit stands s.log s.files t f) (file f ∷ o.names)) (files s level4 stands (next_file s level4 f))) (sym (o.holds.files f)) in
-      rw q (refused s level4 base (admit stands s.log s.files (marked fileMarks f) f) n w (file f ∷ o.names) _ folderMarks fileMarks' row' h stop)
+      rw q (refused s level4 base (admit stands s.log s.files (marked fileMarks f) f) n x (file f ∷ o.names) _ folderMarks fileMarks' row' h)
 
   pub file_ends : (first f n : ℕ) (met : List Entry) → f ≡ 0
       → Onward s level4 base (files s level4 stands) first met folderMarks fileMarks row f n
-      → Walks s level4 base (files s level4 stands first met) (walked.Met n) folderMarks fileMarks row
+      → Walks s level4 base (files s level4 stands first met) (Ok n) folderMarks fileMarks row
   file_ends first f n met z o =
       let q = o.rest ∙ files_rule s level4 stands f o.names
-      ∙ ap (λ (t : Bool). cond t (listed o.names) (next (meet_file s level4 stands f o.names) (files s level4 stands (next_file s level4 f)))) (eq-eqb f 0 z) in
-      rw q (record { answer = ap (λ (x : ℕ). walked.Met x) o.count; state = o.holds })
+      ∙ ap (λ (t : Bool). cond t (Ok o.names) (next (meet_file s level4 stands f o.names) (files s level4 stands (next_file s level4 f)))) (eq-eqb f 0 z) in
+      rw q (record { answer = ap (λ (x : ℕ). Ok x) o.count; state = o.holds })
 
   -- ---- folders
 
@@ -211,7 +182,7 @@ module _ (s : Save) (level4 : List ℕ) (stands : List Bool) (base : List ℕ) (
   }
 
   pub folder_deep : (depth e : ℕ) (met : List Entry) (folderMarks' fileMarks' row' : List ℕ) → 1000 < depth
-      → Walks s level4 base (folder_at s level4 stands depth e met) walked.Invalid folderMarks' fileMarks' row'
+      → Walks s level4 base (folder_at s level4 stands depth e met) (Err entry.Invalid) folderMarks' fileMarks' row'
   folder_deep depth e met folderMarks' fileMarks' row' d = rw (folder_rule s level4 stands depth e met, lt-ltb 1000 depth d) (record { answer = refl; state = tt })
 
   -- a folder that is not too deep
@@ -221,17 +192,17 @@ module _ (s : Save) (level4 : List ℕ) (stands : List Bool) (base : List ℕ) (
       (λ own. next (files s level4 stands (first_file s level4 e) own) (folders s level4 stands (suc depth) (first_folder s level4 e)))
   folder_shallow depth e met d h =
       folder_rule s level4 stands depth e met
-      ∙ ap (λ (t : Bool). cond t invalid (next (meet_folder s level4 stands e met)
+      ∙ ap (λ (t : Bool). cond t (Err entry.Invalid) (next (meet_folder s level4 stands e met)
       (λ own. next (files s level4 stands (first_file s level4 e) own) (folders s level4 stands (suc depth) (first_folder s level4 e))))) (le-ltb 1000 depth d)
       ∙ ap (λ (t : Bool). next (joins (admit stands s.log s.folders t e) (folder e ∷ met))
       (λ own. next (files s level4 stands (first_file s level4 e) own) (folders s level4 stands (suc depth) (first_folder s level4 e)))) (sym (h.folders e))
 
-  pub folder_stops : (depth e n : ℕ) (met : List Entry) (w : Walked) (folderMarks' fileMarks' row' : List ℕ) → depth ≤ 1000
-      → w ≡ met_by (admit stands s.log s.folders (marked folderMarks e) e) n → Stops w → Holds s level4 base met folderMarks fileMarks row
-      → Walks s level4 base (folder_at s level4 stands depth e met) w folderMarks' fileMarks' row'
-  folder_stops depth e n met w folderMarks' fileMarks' row' d h stop held =
+  pub folder_stops : (depth e n : ℕ) (met : List Entry) (x : EntryError) (folderMarks' fileMarks' row' : List ℕ) → depth ≤ 1000
+      → Err x ≡ met_by (admit stands s.log s.folders (marked folderMarks e) e) n → Holds s level4 base met folderMarks fileMarks row
+      → Walks s level4 base (folder_at s level4 stands depth e met) (Err x) folderMarks' fileMarks' row'
+  folder_stops depth e n met x folderMarks' fileMarks' row' d h held =
       rw (folder_shallow depth e met d held)
-      (refused s level4 base (admit stands s.log s.folders (marked folderMarks e) e) n w (folder e ∷ met) _ folderMarks' fileMarks' row' h stop)
+      (refused s level4 base (admit stands s.log s.folders (marked folderMarks e) e) n x (folder e ∷ met) _ folderMarks' fileMarks' row' h)
 
   -- its own entry met: its files come next
   pub folder_opens : (depth e n k : ℕ) (met : List Entry) (folderMarks' row' : List ℕ) → depth ≤ 1000 → Holds s level4 base met folderMarks fileMarks row
@@ -240,29 +211,27 @@ module _ (s : Save) (level4 : List ℕ) (stands : List Bool) (base : List ℕ) (
       ≡ next (files s level4 stands (first_file s level4 e) (folder e ∷ met)) (folders s level4 stands (suc depth) (first_folder s level4 e))
   folder_opens depth e n k met folderMarks' row' d held g =
       folder_shallow depth e met d held
-      ∙ ap (λ (r : Reach). next (joins r (folder e ∷ met))
+      ∙ ap (λ (r : Result ℕ EntryError). next (joins r (folder e ∷ met))
       (λ own. next (files s level4 stands (first_file s level4 e) own) (folders s level4 stands (suc depth) (first_folder s level4 e)))) g.found
 
 -- a walk that stopped, and one that went on
-pub walks_stop : (s : Save) (level4 base : List ℕ) (o : Outcome) (on : List Entry → Outcome) (w : Walked) (folderMarks fileMarks row folderMarks' fileMarks' row' : List ℕ)
-    → Stops w → Walks s level4 base o w folderMarks fileMarks row → Walks s level4 base (next o on) w folderMarks' fileMarks' row'
-walks_stop s level4 base (listed m) on w folderMarks fileMarks row folderMarks' fileMarks' row' stop h = absurd (rw h.answer at stop)
-walks_stop s level4 base invalid on w folderMarks fileMarks row folderMarks' fileMarks' row' stop h = record { answer = h.answer; state = tt }
-walks_stop s level4 base (unverified b) on w folderMarks fileMarks row folderMarks' fileMarks' row' stop h = record { answer = h.answer; state = tt }
+pub walks_stop : (s : Save) (level4 base : List ℕ) (o : Outcome) (on : List Entry → Outcome) (x : EntryError) (folderMarks fileMarks row folderMarks' fileMarks' row' : List ℕ)
+    → Walks s level4 base o (Err x) folderMarks fileMarks row → Walks s level4 base (next o on) (Err x) folderMarks' fileMarks' row'
+walks_stop s level4 base (Ok m) on x folderMarks fileMarks row folderMarks' fileMarks' row' h = let a = h.answer in let z : ◌≡◌ {A = ℕ} 0 1 = cc in absurd (omega arith)
+walks_stop s level4 base (Err y) on x folderMarks fileMarks row folderMarks' fileMarks' row' h = record { answer = h.answer; state = tt }
 
 pub record Went (s : Save) (level4 base : List ℕ) (o : Outcome) (k : ℕ) (folderMarks fileMarks row : List ℕ) : Type 0 where
   pub names : List Entry
-  pub outcome : o ≡ listed names
+  pub outcome : o ≡ Ok names
   pub count : k ≡ length names
   pub holds : Holds s level4 base names folderMarks fileMarks row
 
-pub walks_met : (s : Save) (level4 base : List ℕ) (o : Outcome) (w : Walked) (k : ℕ) (folderMarks fileMarks row : List ℕ)
-    → w ≡ walked.Met k → Walks s level4 base o w folderMarks fileMarks row → Went s level4 base o k folderMarks fileMarks row
-walks_met s level4 base (listed m) w k folderMarks fileMarks row e h =
+pub walks_met : (s : Save) (level4 base : List ℕ) (o : Outcome) (w : Result ℕ EntryError) (k : ℕ) (folderMarks fileMarks row : List ℕ)
+    → w ≡ Ok k → Walks s level4 base o w folderMarks fileMarks row → Went s level4 base o k folderMarks fileMarks row
+walks_met s level4 base (Ok m) w k folderMarks fileMarks row e h =
     let a = h.answer in
     record { names = m; outcome = refl; count = cc; holds = h.state }
-walks_met s level4 base invalid w k folderMarks fileMarks row e h = let a = h.answer in let z : ◌≡◌ {A = ℕ} 0 1 = cc in absurd (omega arith)
-walks_met s level4 base (unverified b) w k folderMarks fileMarks row e h = let a = h.answer in let z : ◌≡◌ {A = ℕ} 0 1 = cc in absurd (omega arith)
+walks_met s level4 base (Err y) w k folderMarks fileMarks row e h = let a = h.answer in let z : ◌≡◌ {A = ℕ} 0 1 = cc in absurd (omega arith)
 
 module _ (s : Save) (level4 : List ℕ) (stands : List Bool) (base : List ℕ) (depth : ℕ) (folderMarks fileMarks row : List ℕ) where
   pub folders_go : (first e n k g : ℕ) (met : List Entry) (o : Onward s level4 base (folders s level4 stands depth) first met folderMarks fileMarks row e n)
@@ -274,26 +243,26 @@ module _ (s : Save) (level4 : List ℕ) (stands : List Bool) (base : List ℕ) (
     count = w.count;
     holds = w.holds;
     rest = o.rest ∙ folders_rule s level4 stands depth e o.names
-        ∙ ap (λ (t : Bool). cond t (listed o.names) (next (folder_at s level4 stands depth e o.names) (folders s level4 stands depth (sibling s level4 e)))) (ne_eqb e 0 z)
+        ∙ ap (λ (t : Bool). cond t (Ok o.names) (next (folder_at s level4 stands depth e o.names) (folders s level4 stands depth (sibling s level4 e)))) (ne_eqb e 0 z)
         ∙ ap (λ (x : Outcome). next x (folders s level4 stands depth (sibling s level4 e))) w.outcome
         ∙ ap (λ (x : ℕ). folders s level4 stands depth x w.names) (sym q);
   }
 
   pub folders_stop : (first e n : ℕ) (met : List Entry) (o : Onward s level4 base (folders s level4 stands depth) first met folderMarks fileMarks row e n)
-      → (w : Walked) (folderMarks' fileMarks' row' : List ℕ) → (e ≡ 0 → ⊥) → Stops w
-      → Walks s level4 base (folder_at s level4 stands depth e o.names) w folderMarks' fileMarks' row'
-      → Walks s level4 base (folders s level4 stands depth first met) w folderMarks' fileMarks' row'
-  folders_stop first e n met o w folderMarks' fileMarks' row' z stop h =
+      → (x : EntryError) (folderMarks' fileMarks' row' : List ℕ) → (e ≡ 0 → ⊥)
+      → Walks s level4 base (folder_at s level4 stands depth e o.names) (Err x) folderMarks' fileMarks' row'
+      → Walks s level4 base (folders s level4 stands depth first met) (Err x) folderMarks' fileMarks' row'
+  folders_stop first e n met o x folderMarks' fileMarks' row' z h =
       let q = o.rest ∙ folders_rule s level4 stands depth e o.names
-      ∙ ap (λ (t : Bool). cond t (listed o.names) (next (folder_at s level4 stands depth e o.names) (folders s level4 stands depth (sibling s level4 e)))) (ne_eqb e 0 z) in
-      rw q (walks_stop s level4 base (folder_at s level4 stands depth e o.names) _ w folderMarks' fileMarks' row' folderMarks' fileMarks' row' stop h)
+      ∙ ap (λ (t : Bool). cond t (Ok o.names) (next (folder_at s level4 stands depth e o.names) (folders s level4 stands depth (sibling s level4 e)))) (ne_eqb e 0 z) in
+      rw q (walks_stop s level4 base (folder_at s level4 stands depth e o.names) _ x folderMarks' fileMarks' row' folderMarks' fileMarks' row' h)
 
   pub folders_end : (first e n : ℕ) (met : List Entry) → e ≡ 0 → Onward s level4 base (folders s level4 stands depth) first met folderMarks fileMarks row e n
-      → Walks s level4 base (folders s level4 stands depth first met) (walked.Met n) folderMarks fileMarks row
+      → Walks s level4 base (folders s level4 stands depth first met) (Ok n) folderMarks fileMarks row
   folders_end first e n met z o =
       let q = o.rest ∙ folders_rule s level4 stands depth e o.names
-      ∙ ap (λ (t : Bool). cond t (listed o.names) (next (folder_at s level4 stands depth e o.names) (folders s level4 stands depth (sibling s level4 e)))) (eq-eqb e 0 z) in
-      rw q (record { answer = ap (λ (x : ℕ). walked.Met x) o.count; state = o.holds })
+      ∙ ap (λ (t : Bool). cond t (Ok o.names) (next (folder_at s level4 stands depth e o.names) (folders s level4 stands depth (sibling s level4 e)))) (eq-eqb e 0 z) in
+      rw q (record { answer = ap (λ (x : ℕ). Ok x) o.count; state = o.holds })
 
 -- ---- the whole listing
 
@@ -325,31 +294,12 @@ pub holds_root : (s : Save) (level4 row : List ℕ) (a b : ℕ) → Holds s leve
 unfolding seen_folder seen_file laid
 holds_root s level4 row a b = record { folders = zeros_unmarked a; files = zeros_unmarked b; names = refl }
 
-pub root_listed : (s : Save) (level4 : List ℕ) (stands : List Bool) (row row' : List ℕ) (r : Walked) (folderMarks fileMarks : List ℕ)
+pub root_listed : (s : Save) (level4 : List ℕ) (stands : List Bool) (row row' : List ℕ) (r : Result ℕ EntryError) (folderMarks fileMarks : List ℕ)
     → Walks s level4 row (folder_at s level4 stands 0 1 []) r folderMarks fileMarks row'
     → (r ≡ answer_of (listing s level4 stands)) × Lays s level4 row (listing s level4 stands) row'
 unfolding listing
 root_listed s level4 stands row row' r folderMarks fileMarks w = (w.answer, lays (folder_at s level4 stands 0 1 []) w.state)
   where
     lays : (o : Outcome) → Leaves s level4 row o folderMarks fileMarks row' → Lays s level4 row o row'
-    lays (listed m) h = h.names
-    lays invalid h = tt
-    lays (unverified b) h = tt
-
--- a refused walk: the row is as it was
-pub listing_stops : (s : Save) (level4 row : List ℕ) (o : Outcome) (w : Walked) (row' : List ℕ) → w ≡ answer_of o → Stops w → row' ≡ row → row' ≡ row_after s level4 row o
-listing_stops s level4 row (listed m) w row' h stop e = absurd (rw h at stop)
-listing_stops s level4 row invalid w row' h stop e = e
-listing_stops s level4 row (unverified b) w row' h stop e = e
-
--- a second walk over the row as it was
-pub listing_goes : (s : Save) (level4 row : List ℕ) (o : Outcome) (w : Walked) (k : ℕ) (row₁ row' : List ℕ) → w ≡ answer_of o → w ≡ walked.Met k → row₁ ≡ row
-    → Lays s level4 row₁ o row' → row' ≡ row_after s level4 row o
-listing_goes s level4 row (listed m) w k row₁ row' h e p l = l ∙ ap (λ (x : List ℕ). laid s level4 x m) p
-listing_goes s level4 row invalid w k row₁ row' h e p l = let z : ◌≡◌ {A = ℕ} 0 1 = cc in absurd (omega arith)
-listing_goes s level4 row (unverified b) w k row₁ row' h e p l = let z : ◌≡◌ {A = ℕ} 0 1 = cc in absurd (omega arith)
-
--- an empty part in front of the row
-pub part_none : (l row : List ℕ) → length l ≡ 0 → l ++ row ≡ row
-part_none [] row h = refl
-part_none (x ∷ l) row h = absurd (omega arith)
+    lays (Ok m) h = h.names
+    lays (Err y) h = tt

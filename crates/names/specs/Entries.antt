@@ -1,13 +1,13 @@
 -- Entries of the two tables (document 004), and when one may be met. `level4` is level 4's bytes, `stands` says of each of its blocks whether it is
 -- verified, and `log` is the logarithm of its block size.
-use Rattle.std.specs.Prelude.{ℕ, suc, ◌+◌, ◌-◌, ◌*◌, ◌/◌, ◌^◌, Bool, false, cond, ◌||◌, List, leb, ltb, get_or}
+use Rattle.std.specs.Prelude.{ℕ, suc, ◌+◌, ◌-◌, ◌*◌, ◌/◌, ◌^◌, Bool, false, cond, ◌||◌, List, leb, ltb, get_or, Result, Ok, Err}
+use Rattle.names.specs.declared.EntryError.{EntryError}
+use Rattle.names.specs.declared.EntryError.TheVariants as entry
 use Rattle.number.specs.Fields.{le32}
 use Rattle.number.specs.Bytes.{bytes}
 use Rattle.ivfc.specs.Verified.{first_not}
 use Rattle.names.specs.declared.Table.{Table}
 use Rattle.names.specs.declared.Save.{Save}
-use Rattle.names.specs.declared.Reach.{Reach}
-use Rattle.names.specs.declared.Reach.TheVariants as reach
 
 -- block b of level 4 is verified; past the last block nothing is
 unfoldable pub verified : List Bool → ℕ → Bool
@@ -22,14 +22,14 @@ unfoldable pub place : Table → ℕ → ℕ
 place t e = t.place + t.size * e
 
 -- the n bytes at a place are read whole: each block that they touch must be verified
-unfoldable pub read_at : List Bool → (log at n : ℕ) → Reach
+unfoldable pub read_at : List Bool → (log at n : ℕ) → Result ℕ EntryError
 read_at stands log at n =
-    cond (ltb ((at + n - 1) / 2 ^ log) (lowest stands log at n)) (reach.At at) (reach.Unverified (lowest stands log at n))
+    cond (ltb ((at + n - 1) / 2 ^ log) (lowest stands log at n)) (Ok at) (Err (entry.Unverified (lowest stands log at n)))
 
 -- an entry is met: its number is judged, then it is read whole. `again` says that it was met before.
-unfoldable pub admit : List Bool → (log : ℕ) → Table → (again : Bool) → (e : ℕ) → Reach
+unfoldable pub admit : List Bool → (log : ℕ) → Table → (again : Bool) → (e : ℕ) → Result ℕ EntryError
 admit stands log t again e =
-    cond (again || (leb t.count e || leb t.max e)) reach.Invalid (read_at stands log (place t e) t.size)
+    cond (again || (leb t.count e || leb t.max e)) (Err entry.Invalid) (read_at stands log (place t e) t.size)
 
 -- the fields of entries that the walk follows; 0 ends a chain
 abbrev pub sibling : Save → List ℕ → (folder : ℕ) → ℕ

@@ -1,8 +1,8 @@
 -- W11's listing: a folder is listed by its own entry, by its files in sibling order, then by each subfolder, which is listed in the same way.
-use Rattle.std.specs.Prelude.{ℕ, zero, suc, Bool, false, cond, ◌||◌, List, [], ◌∷◌, ltb, eqb}
+use Rattle.std.specs.Prelude.{ℕ, zero, suc, Bool, false, cond, ◌||◌, List, [], ◌∷◌, ltb, eqb, Result, Ok, Err}
+use Rattle.names.specs.declared.EntryError.{EntryError}
+use Rattle.names.specs.declared.EntryError.TheVariants as entry
 use Rattle.names.specs.declared.Save.{Save}
-use Rattle.names.specs.declared.Reach.{Reach}
-use Rattle.names.specs.declared.Reach.TheVariants as reach
 use Rattle.names.specs.Entries.{admit, sibling, first_folder, first_file, next_file}
 
 -- a name of the listing: an entry of one of the tables
@@ -11,10 +11,8 @@ pub data Entry : Type 0 where
   file : ℕ → Entry
 
 -- the entries met so far, the latest first; or why the walk stopped: 18, or 10 with its block
-pub data Outcome : Type 0 where
-  listed : List Entry → Outcome
-  invalid : Outcome
-  unverified : ℕ → Outcome
+abbrev pub Outcome : Type 0
+Outcome = Result (List Entry) EntryError
 
 unfoldable pub seen_folder : List Entry → ℕ → Bool
 seen_folder [] x = false
@@ -28,14 +26,12 @@ seen_file (file e ∷ met) x = eqb x e || seen_file met x
 
 -- a walk that did not stop goes on
 abbrev pub next : Outcome → (List Entry → Outcome) → Outcome
-next (listed met) on = on met
-next invalid on = invalid
-next (unverified b) on = unverified b
+next (Ok met) on = on met
+next (Err e) on = Err e
 
-abbrev pub joins : Reach → List Entry → Outcome
-joins (reach.At at) met = listed met
-joins reach.Invalid met = invalid
-joins (reach.Unverified b) met = unverified b
+abbrev pub joins : Result ℕ EntryError → List Entry → Outcome
+joins (Ok at) met = Ok met
+joins (Err e) met = Err e
 
 module _ (s : Save) (level4 : List ℕ) (stands : List Bool) where
   abbrev pub meet_folder : ℕ → List Entry → Outcome
@@ -46,8 +42,8 @@ module _ (s : Save) (level4 : List ℕ) (stands : List Bool) where
 
   -- the files from f on, in sibling order. The first argument bounds the steps; it never decides (Laws.antt).
   unfoldable pub files_in : (steps : ℕ) → (f : ℕ) → List Entry → Outcome
-  files_in zero f met = invalid
-  files_in (suc n) f met = cond (eqb f 0) (listed met) (next (meet_file f met) (files_in n (next_file s level4 f)))
+  files_in zero f met = Err entry.Invalid
+  files_in (suc n) f met = cond (eqb f 0) (Ok met) (next (meet_file f met) (files_in n (next_file s level4 f)))
 
   unfoldable pub files : (f : ℕ) → List Entry → Outcome
   files f met = files_in (suc s.files.max) f met
@@ -55,14 +51,14 @@ module _ (s : Save) (level4 : List ℕ) (stands : List Bool) where
   -- a folder, where `below` lists the subfolders from one on at a depth
   unfoldable pub folder_over : (below : ℕ → ℕ → List Entry → Outcome) → (depth e : ℕ) → List Entry → Outcome
   folder_over below depth e met =
-      cond (ltb 1000 depth) invalid
+      cond (ltb 1000 depth) (Err entry.Invalid)
       (next (meet_folder e met) (λ own. next (files (first_file s level4 e) own) (below (suc depth) (first_folder s level4 e))))
 
   -- the folders from e on, in sibling order, each with all that is below it
   unfoldable pub folders_in : (steps : ℕ) → (depth e : ℕ) → List Entry → Outcome
-  folders_in zero depth e met = invalid
+  folders_in zero depth e met = Err entry.Invalid
   folders_in (suc n) depth e met =
-      cond (eqb e 0) (listed met) (next (folder_over (folders_in n) depth e met) (folders_in n depth (sibling s level4 e)))
+      cond (eqb e 0) (Ok met) (next (folder_over (folders_in n) depth e met) (folders_in n depth (sibling s level4 e)))
 
   unfoldable pub folders : (depth e : ℕ) → List Entry → Outcome
   folders depth e met = folders_in (suc s.folders.max) depth e met

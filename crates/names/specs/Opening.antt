@@ -1,14 +1,14 @@
 -- The SAVE header (document 004) and both tables' entry 0, read whole and judged in W11's order.
-use Rattle.std.specs.Prelude.{ℕ, ◌+◌, ◌*◌, Bool, not, cond, ◌&&◌, List, [], ◌∷◌, eqb, ltb, length, take}
+use Rattle.std.specs.Prelude.{ℕ, ◌+◌, ◌*◌, Bool, not, cond, ◌&&◌, List, [], ◌∷◌, eqb, ltb, length, take, Result, Ok, Err}
+use Rattle.names.specs.declared.EntryError.{EntryError}
+use Rattle.names.specs.declared.EntryError.TheVariants as entry
+use Rattle.names.specs.declared.SaveError.{SaveError}
+use Rattle.names.specs.declared.SaveError.TheVariants as save
 use Rattle.number.specs.Fields.{le32, le64}
 use Rattle.number.specs.Bytes.{same_bytes}
 use Rattle.number.specs.Ranges.{inside}
 use Rattle.names.specs.declared.Table.{Table}
 use Rattle.names.specs.declared.Save.{Save}
-use Rattle.names.specs.declared.Reach.{Reach}
-use Rattle.names.specs.declared.Reach.TheVariants as reach
-use Rattle.names.specs.declared.SaveOpened.{SaveOpened}
-use Rattle.names.specs.declared.SaveOpened.TheVariants as opened
 use Rattle.names.specs.Entries.{read_at}
 
 -- "SAVE", 00 00 04 00
@@ -52,24 +52,28 @@ well_formed header size =
     (same_bytes (take 8 header) magic && (hash_inside header size 0x28 && hash_inside header size 0x38))
     && (table_inside header size 0x68 (0x28 * (le32 header 0x70 + 2)) && table_inside header size 0x78 (0x30 * (le32 header 0x80 + 1)))
 
+-- what cannot be read whole is no save that can be opened: 10 with its block
+abbrev pub save_error : EntryError → SaveError
+save_error entry.Invalid = save.NoSave
+save_error (entry.Unverified b) = save.Unverified b
+
 -- what was read whole goes on
-abbrev pub read_then : Reach → SaveOpened → SaveOpened
-read_then (reach.At at) rest = rest
-read_then reach.Invalid rest = opened.NoSave
-read_then (reach.Unverified b) rest = opened.Unverified b
+abbrev pub read_then : Result ℕ EntryError → Result Save SaveError → Result Save SaveError
+read_then (Ok at) rest = rest
+read_then (Err e) rest = Err (save_error e)
 
 -- both tables' entry 0, the folders' first
-abbrev pub entries_read : (stands : List Bool) → Save → SaveOpened
+abbrev pub entries_read : (stands : List Bool) → Save → Result Save SaveError
 entries_read stands s =
-    read_then (read_at stands s.log s.folders.place 0x28) (read_then (read_at stands s.log s.files.place 0x30) (opened.Valid s))
+    read_then (read_at stands s.log s.folders.place 0x28) (read_then (read_at stands s.log s.files.place 0x30) (Ok s))
 
 -- a header that is verified: 19 for what it says, 10 for the entries 0
-unfoldable pub judged_header : (level4 : List ℕ) (stands : List Bool) → (log : ℕ) → SaveOpened
+unfoldable pub judged_header : (level4 : List ℕ) (stands : List Bool) → (log : ℕ) → Result Save SaveError
 judged_header level4 stands log =
-    cond (well_formed (header_of level4) (length level4)) (entries_read stands (save_of (header_of level4) level4 log)) opened.NoSave
+    cond (well_formed (header_of level4) (length level4)) (entries_read stands (save_of (header_of level4) level4 log)) (Err save.NoSave)
 
 -- 19 for level 4's length, then 10 for the header
-unfoldable pub open_save : (level4 : List ℕ) (stands : List Bool) → (log : ℕ) → SaveOpened
+unfoldable pub open_save : (level4 : List ℕ) (stands : List Bool) → (log : ℕ) → Result Save SaveError
 open_save level4 stands log =
-    cond (ltb (length level4) 0x88) opened.NoSave
+    cond (ltb (length level4) 0x88) (Err save.NoSave)
     (read_then (read_at stands log 0 0x88) (judged_header level4 stands log))

@@ -1,11 +1,11 @@
 -- The lent row: records of 24 bytes, each the kind (0 folder, 1 file) and the entry number, of 4 bytes each with the least significant first, and
 -- the 16 name bytes.
-use Rattle.std.specs.Prelude.{ℕ, ◌*◌, ◌/◌, cond, List, [], ◌∷◌, ◌++◌, ltb, length}
+use Rattle.std.specs.Prelude.{ℕ, ◌*◌, ◌/◌, cond, List, [], ◌∷◌, ◌++◌, ltb, length, Ok, Err}
 use Rattle.std.proofs.lemmas.List.Edits.{sets}
 use Rattle.number.specs.Fields.{field_bytes}
 use Rattle.names.specs.declared.Save.{Save}
 use Rattle.names.specs.Entries.{name}
-use Rattle.names.specs.Listing.{Entry, folder, file, Outcome, listed, invalid, unverified}
+use Rattle.names.specs.Listing.{Entry, Outcome, folder, file}
 
 abbrev pub head : (kind e : ℕ) → List ℕ
 head kind e = field_bytes 4 kind ++ field_bytes 4 e
@@ -25,6 +25,5 @@ laid s level4 row (e ∷ met) = put_record (laid s level4 row met) (length met) 
 
 -- the row after a listing: the names, or as it was where the listing is refused
 abbrev pub row_after : Save → (level4 row : List ℕ) → Outcome → List ℕ
-row_after s level4 row (listed met) = laid s level4 row met
-row_after s level4 row invalid = row
-row_after s level4 row (unverified b) = row
+row_after s level4 row (Ok met) = laid s level4 row met
+row_after s level4 row (Err e) = row

@@ -1,15 +1,11 @@
 -- W11's search: a file by its folder's number and its 16 name bytes, along the chain of its bucket.
-use Rattle.std.specs.Prelude.{ℕ, zero, suc, ◌+◌, ◌*◌, ◌/◌, ◌%◌, ◌^◌, Bool, cond, ◌&&◌, List, [], ◌∷◌, eqb, get_or}
+use Rattle.std.specs.Prelude.{ℕ, zero, suc, ◌+◌, ◌*◌, ◌/◌, ◌%◌, ◌^◌, Bool, cond, ◌&&◌, List, [], ◌∷◌, eqb, get_or, Result, Ok, Err, Option, Some, None}
 use Rattle.std.specs.Int.Bits.{bit_xor, bit_or}
+use Rattle.names.specs.declared.EntryError.{EntryError}
+use Rattle.names.specs.declared.EntryError.TheVariants as entry
 use Rattle.number.specs.Fields.{le32}
 use Rattle.number.specs.Bytes.{same_bytes}
 use Rattle.names.specs.declared.Save.{Save}
-use Rattle.names.specs.declared.Reach.{Reach}
-use Rattle.names.specs.declared.Reach.TheVariants as reach
-use Rattle.names.specs.declared.Search.{Search}
-use Rattle.names.specs.declared.Search.TheVariants as search
-use Rattle.names.specs.declared.Link.{Link}
-use Rattle.names.specs.declared.Link.TheVariants as link
 use Rattle.names.specs.Entries.{admit, read_at, place, name}
 use Rattle.names.specs.Listing.{Entry, file, seen_file}
 
@@ -37,34 +33,37 @@ named s level4 parent wanted f = eqb (le32 level4 (place s.files f)) parent && s
 abbrev pub next_in_bucket : Save → (level4 : List ℕ) → ℕ → ℕ
 next_in_bucket s level4 f = le32 level4 (place s.files f + 0x2C)
 
-abbrev pub along : Link → (ℕ → Search) → Search
-along (link.Next f) on = on f
-along (link.Last a) on = a
+-- one entry of a chain: the next one's number, or the search's answer, the file's entry number or none
+pub data Link : Type 0 where
+  goes : ℕ → Link
+  ends : Result (Option ℕ) EntryError → Link
+
+abbrev pub along : Link → (ℕ → Result (Option ℕ) EntryError) → Result (Option ℕ) EntryError
+along (goes f) on = on f
+along (ends a) on = a
 
 module _ (s : Save) (level4 : List ℕ) (stands : List Bool) (parent : ℕ) (wanted : List ℕ) where
   -- an entry that may be met is the answer, or the chain goes on
-  abbrev pub linked : Reach → ℕ → Link
-  linked (reach.At at) f = cond (named s level4 parent wanted f) (link.Last (search.File f)) (link.Next (next_in_bucket s level4 f))
-  linked reach.Invalid f = link.Last search.Invalid
-  linked (reach.Unverified b) f = link.Last (search.Unverified b)
+  abbrev pub linked : Result ℕ EntryError → ℕ → Link
+  linked (Ok at) f = cond (named s level4 parent wanted f) (ends (Ok (Some f))) (goes (next_in_bucket s level4 f))
+  linked (Err e) f = ends (Err e)
 
   -- entry f, where `again` says that it was met before; 0 ends the chain
   unfoldable pub link_at : (again : Bool) → ℕ → Link
-  link_at again f = cond (eqb f 0) (link.Last search.Nothing) (linked (admit stands s.log s.files again f) f)
+  link_at again f = cond (eqb f 0) (ends (Ok None)) (linked (admit stands s.log s.files again f) f)
 
   -- the chain from f on, with the entries met so far. The first argument bounds the steps; it never decides (Laws.antt).
-  unfoldable pub chain_in : (steps : ℕ) → (f : ℕ) → List Entry → Search
-  chain_in zero f met = search.Invalid
+  unfoldable pub chain_in : (steps : ℕ) → (f : ℕ) → List Entry → Result (Option ℕ) EntryError
+  chain_in zero f met = Err entry.Invalid
   chain_in (suc n) f met = along (link_at (seen_file met f) f) (λ g. chain_in n g (file f ∷ met))
 
-  unfoldable pub chain : (f : ℕ) → List Entry → Search
+  unfoldable pub chain : (f : ℕ) → List Entry → Result (Option ℕ) EntryError
   chain f met = chain_in (suc s.files.max) f met
 
   -- the bucket's word is read whole, then its chain is followed
-  abbrev pub chain_at : Reach → Search
-  chain_at (reach.At at) = chain (le32 level4 at) []
-  chain_at reach.Invalid = search.Invalid
-  chain_at (reach.Unverified b) = search.Unverified b
+  abbrev pub chain_at : Result ℕ EntryError → Result (Option ℕ) EntryError
+  chain_at (Ok at) = chain (le32 level4 at) []
+  chain_at (Err e) = Err e
 
-  unfoldable pub found : Search
+  unfoldable pub found : Result (Option ℕ) EntryError
   found = chain_at (read_at stands s.log (s.hash + 4 * bucket wanted parent s.buckets) 4)

@@ -1,38 +1,31 @@
 -- What the code's state has to do with the definition: marks, count and row stand for the entries met so far.
-use Rattle.std.specs.Prelude.{ℕ, zero, suc, ◌+◌, ◌*◌, ◌≤◌, ◌<◌, Bool, false, ◌≡◌, List, ◌++◌, length}
+use Rattle.std.specs.Prelude.{ℕ, zero, suc, ◌+◌, ◌*◌, ◌≤◌, ◌<◌, Bool, false, ◌≡◌, List, ◌++◌, length, Result, Ok, Err, Option}
+use Rattle.names.specs.declared.EntryError.{EntryError}
+use Rattle.names.specs.declared.EntryError.TheVariants as entry
 use Rattle.number.specs.Marks.{marked, Marks, left}
 use Rattle.names.specs.declared.Save.{Save}
 use Rattle.names.specs.declared.Table.{Table}
-use Rattle.names.specs.declared.Reach.{Reach}
-use Rattle.names.specs.declared.Reach.TheVariants as reach
-use Rattle.names.specs.declared.Search.{Search}
-use Rattle.names.specs.declared.Search.TheVariants as search
-use Rattle.names.specs.declared.Walked.{Walked}
-use Rattle.names.specs.declared.Walked.TheVariants as walked
 use Rattle.names.specs.Entries.{name}
-use Rattle.names.specs.Listing.{Entry, Outcome, listed, invalid, unverified, seen_folder, seen_file}
+use Rattle.names.specs.Listing.{Entry, Outcome, seen_folder, seen_file}
 use Rattle.names.specs.Searching.{along, link_at}
 use Rattle.names.specs.Records.{head, put_record, laid}
 
 -- ---- one entry
 
-abbrev pub met_by : Reach → (n : ℕ) → Walked
-met_by (reach.At at) n = walked.Met (n + 1)
-met_by reach.Invalid n = walked.Invalid
-met_by (reach.Unverified b) n = walked.Unverified b
+abbrev pub met_by : Result ℕ EntryError → (n : ℕ) → Result ℕ EntryError
+met_by (Ok at) n = Ok (n + 1)
+met_by (Err e) n = Err e
 
-abbrev pub leaves : Reach → Table → (kind e n : ℕ) → (level4 marks row marks' row' : List ℕ) → Type 0
-leaves (reach.At at) t kind e n level4 marks row marks' row' =
+abbrev pub leaves : Result ℕ EntryError → Table → (kind e n : ℕ) → (level4 marks row marks' row' : List ℕ) → Type 0
+leaves (Ok at) t kind e n level4 marks row marks' row' =
     Marks marks e marks' × (row' ≡ put_record row n (head kind e ++ name t level4 e))
-leaves reach.Invalid t kind e n level4 marks row marks' row' = Unit {0}
-leaves (reach.Unverified b) t kind e n level4 marks row marks' row' = Unit {0}
+leaves (Err x) t kind e n level4 marks row marks' row' = Unit {0}
 
 -- ---- a walk
 
-abbrev pub answer_of : Outcome → Walked
-answer_of (listed met) = walked.Met (length met)
-answer_of invalid = walked.Invalid
-answer_of (unverified b) = walked.Unverified b
+abbrev pub answer_of : Outcome → Result ℕ EntryError
+answer_of (Ok met) = Ok (length met)
+answer_of (Err e) = Err e
 
 -- the code's state stands for the entries met, over the row as it was at the start
 pub record Holds (s : Save) (level4 row₀ : List ℕ) (met : List Entry) (folderMarks fileMarks row : List ℕ) : Type 0 where
@@ -41,12 +34,11 @@ pub record Holds (s : Save) (level4 row₀ : List ℕ) (met : List Entry) (folde
   pub names : row ≡ laid s level4 row₀ met
 
 abbrev pub Leaves : Save → (level4 row₀ : List ℕ) → Outcome → (folderMarks fileMarks row : List ℕ) → Type 0
-Leaves s level4 row₀ (listed met) folderMarks fileMarks row = Holds s level4 row₀ met folderMarks fileMarks row
-Leaves s level4 row₀ invalid folderMarks fileMarks row = Unit {0}
-Leaves s level4 row₀ (unverified b) folderMarks fileMarks row = Unit {0}
+Leaves s level4 row₀ (Ok met) folderMarks fileMarks row = Holds s level4 row₀ met folderMarks fileMarks row
+Leaves s level4 row₀ (Err e) folderMarks fileMarks row = Unit {0}
 
 -- a walk answers as the definition says, and leaves the state that stands for what it met
-pub record Walks (s : Save) (level4 row₀ : List ℕ) (o : Outcome) (w : Walked) (folderMarks fileMarks row : List ℕ) : Type 0 where
+pub record Walks (s : Save) (level4 row₀ : List ℕ) (o : Outcome) (w : Result ℕ EntryError) (folderMarks fileMarks row : List ℕ) : Type 0 where
   pub answer : w ≡ answer_of o
   pub state : Leaves s level4 row₀ o folderMarks fileMarks row
 
@@ -55,16 +47,14 @@ abbrev pub unvisited : Table → (marks : List ℕ) → ℕ
 unvisited t marks = left (marked marks) t.max
 
 -- a walk that goes on has met as many entries as are no longer unvisited
-abbrev pub Goes : (n folders files : ℕ) → Walked → (folders' files' : ℕ) → Type 0
-Goes n folders files (walked.Met m) folders' files' = (m + folders' + files' ≡ n + folders + files) × (folders' ≤ folders) × (files' ≤ files)
-Goes n folders files walked.Invalid folders' files' = Unit {0}
-Goes n folders files (walked.Unverified b) folders' files' = Unit {0}
+abbrev pub Goes : (n folders files : ℕ) → Result ℕ EntryError → (folders' files' : ℕ) → Type 0
+Goes n folders files (Ok m) folders' files' = (m + folders' + files' ≡ n + folders + files) × (folders' ≤ folders) × (files' ≤ files)
+Goes n folders files (Err x) folders' files' = Unit {0}
 
 -- one that listed a folder has fewer left, and the folder is in the table
-abbrev pub Fewer : Table → (e folders : ℕ) → Walked → (folders' : ℕ) → Type 0
-Fewer t e folders (walked.Met m) folders' = (folders' < folders) × (e < t.max)
-Fewer t e folders walked.Invalid folders' = Unit {0}
-Fewer t e folders (walked.Unverified b) folders' = Unit {0}
+abbrev pub Fewer : Table → (e folders : ℕ) → Result ℕ EntryError → (folders' : ℕ) → Type 0
+Fewer t e folders (Ok m) folders' = (folders' < folders) × (e < t.max)
+Fewer t e folders (Err x) folders' = Unit {0}
 
 -- what a walk asks of its state: marks for every entry, and names that can be counted
 pub record Ready (s : Save) (log size : ℕ) (folderMarks fileMarks : List ℕ) (n : ℕ) : Type 0 where
@@ -84,8 +74,8 @@ pub record Searchable (s : Save) (log size : ℕ) : Type 0 where
   pub file : 0x30 ≤ s.files.size
 
 -- a chain by a count of steps alone, with no memory of what was met
-unfoldable pub counted : Save → (level4 : List ℕ) → (stands : List Bool) → (parent : ℕ) → (wanted : List ℕ) → (steps f : ℕ) → Search
-counted s level4 stands parent wanted zero f = search.Invalid
+unfoldable pub counted : Save → (level4 : List ℕ) → (stands : List Bool) → (parent : ℕ) → (wanted : List ℕ) → (steps f : ℕ) → Result (Option ℕ) EntryError
+counted s level4 stands parent wanted zero f = Err entry.Invalid
 counted s level4 stands parent wanted (suc n) f = along (link_at s level4 stands parent wanted false f) (counted s level4 stands parent wanted n)
 
 -- ---- the whole listing
@@ -102,6 +92,5 @@ pub record Listable (s : Save) (log size : ℕ) : Type 0 where
 
 -- the row after a listing that has names holds them; what a refusal leaves in it is not said
 abbrev pub Lays : Save → (level4 row : List ℕ) → Outcome → (after : List ℕ) → Type 0
-Lays s level4 row (listed met) after = after ≡ laid s level4 row met
-Lays s level4 row invalid after = Unit {0}
-Lays s level4 row (unverified b) after = Unit {0}
+Lays s level4 row (Ok met) after = after ≡ laid s level4 row met
+Lays s level4 row (Err e) after = Unit {0}

@@ -14,11 +14,7 @@ fn unsigned(x: u8) -> u32
 fn stir(h: u32, a: u8, b: u8, c: u8, d: u8) -> u32
     ensures { result ≡ round h a b c d }
 {
-    ((h >> 1) | (h << 31))
-        ^ unsigned(a)
-        ^ (unsigned(b) << 8)
-        ^ (unsigned(c) << 16)
-        ^ (unsigned(d) << 24)
+    h.rotate_right(1) ^ unsigned(a) ^ (unsigned(b) << 8) ^ (unsigned(c) << 16) ^ (unsigned(d) << 24)
 }
 
 // Round i, with bytes 4 i to 4 i + 3 of the name.
@@ -41,9 +37,9 @@ pub fn bucket_of(name: &[u8], parent: u64, count: u64) -> u64
     ensures { (result ≡ bucket name.now parent count) × (result < count) }
 {
     let word = (parent % 0x1_0000_0000) as u32;
-    let first = stir_at(word ^ 0x091A_2B3C, name, 0);
-    let second = stir_at(first, name, 1);
-    let third = stir_at(second, name, 2);
-    let last = stir_at(third, name, 3);
-    last as u64 % count
+    let mut h = word ^ 0x091A_2B3C;
+    for i in 0..4 {
+        h = stir_at(h, name, i);
+    }
+    h as u64 % count
 }

@@ -2,7 +2,9 @@
 // above this crate's definitions (crate save): here level 4 is its bytes and, for each of its blocks, whether it is verified.
 #![tactic(auto)]
 
+ghost use Rattle.std.specs.Prelude.{◌≡◌};
 ghost use Rattle.names.specs.Laws.{NameLaws};
+ghost use Rattle.names.specs.Opening.{save_error};
 
 pub mod hashing;
 pub mod header;
@@ -29,44 +31,30 @@ pub struct Save {
     pub files: Table,
 }
 
-// A save whose header and entries 0 were read; else 19, or 10 with its block.
-#[derive(Clone, Copy)]
-pub enum SaveOpened {
-    Valid(Save),
+// Why a save is not opened: 19, or 10 with its block.
+#[derive(Clone, Copy, PartialEq, Eq, Debug)]
+pub enum SaveError {
     NoSave,
     Unverified(u64),
 }
 
-// An entry that may be met is at a place of level 4; else 18, or 10 with the lowest block that is not verified.
-#[derive(Clone, Copy)]
-pub enum Reach {
-    At(u64),
+// Why an entry may not be met: 18, or 10 with the lowest block that is not verified.
+#[derive(Clone, Copy, PartialEq, Eq, Debug)]
+pub enum EntryError {
     Invalid,
     Unverified(u64),
 }
 
-// How many names have been met so far; else 18, or 10 with its block.
-#[derive(Clone, Copy)]
-pub enum Walked {
-    Met(u64),
-    Invalid,
-    Unverified(u64),
-}
+// The header and the entries 0 are only read: what may not be read is 10 with its block.
+impl From<EntryError> for SaveError {
+    ghost from_gives = { λ e s. s ≡ save_error e };
 
-// One entry of a chain: the next one's number, or the search's answer.
-#[derive(Clone, Copy)]
-pub enum Link {
-    Next(u64),
-    Last(Search),
-}
-
-// The file's entry number, or none; else 18, or 10 with its block.
-#[derive(Clone, Copy)]
-pub enum Search {
-    File(u64),
-    Nothing,
-    Invalid,
-    Unverified(u64),
+    fn from(e: EntryError) -> SaveError {
+        match e {
+            EntryError::Invalid => SaveError::NoSave,
+            EntryError::Unverified(b) => SaveError::Unverified(b),
+        }
+    }
 }
 
 // The laws of the listing and the search hold: the check of this crate asks for them by their statement.

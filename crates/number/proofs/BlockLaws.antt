@@ -2,9 +2,9 @@
 use mathlib.Core.Path.{◌≡◌, refl, sym, ◌∙◌}
 use mathlib.Core.Bool.{Bool, true, false, not, ◌&&◌, true≢false}
 use mathlib.Core.Logic.{◌⊎◌, inl, inr, ◌↔◌}
-use Prim.Native.Nat.{ℕ, zero, suc, ◌+◌, ◌-◌, ◌*◌, ◌/◌, ◌%◌, ◌≤◌, ◌<◌, max}
+use Prim.Native.Nat.{ℕ, zero, suc, ◌+◌, ◌-◌, ◌*◌, ◌/◌, ◌%◌, ◌≤◌, ◌<◌, min, max}
 use native.Mathlib.Omega.{arith}
-use native.Mathlib.Nat.{le-div_iff_mul-le, div-lt_iff_lt-mul, div-mul-le_self, lt-div-mul-add, mul-le-mul_right, suc-mul, mod-add-div', le-mul_of_pos_right, mod-lt}
+use native.Mathlib.Nat.{add-zero, le-div_iff_mul-le, div-lt_iff_lt-mul, div-mul-le_self, lt-div-mul-add, mul-le-mul_right, suc-mul, mod-add-div', mod-lt}
 use native.Mathlib.Numerals.{add-one}
 use lib.Dec.{eqb, leb, ltb}
 use lib.Pow.{pow_pos}
@@ -127,10 +127,6 @@ touches_byte l x n b = (to, from)
 
 -- ---- the count without the sum
 
--- a quotient with a remainder has room for one more
-pub room_for_one : (n m : ℕ) → 0 < m → (n % m ≡ 0 → ⊥) → n / m + 1 ≤ n
-room_for_one n m p q = omega (arith, mod-add-div' n m, le-mul_of_pos_right (n / m) p)
-
 quotient : (m q r : ℕ) → 0 < m → r < m → (q * m + r) / m ≡ q
 quotient m q r pos h =
     let low : q ≤ (q * m + r) / m = (le-div_iff_mul-le {x = q} {y = q * m + r} pos).1 (omega arith) in
@@ -139,14 +135,14 @@ quotient m q r pos h =
 
 -- rounded up is the quotient, with one more where there is a remainder
 module _ (l : Level) (unit : ℕ) (e : unit ≡ block_size l) where
-  pub count_even : l.size % unit ≡ 0 → l.size / unit ≡ blocks l
+  count_even : l.size % unit ≡ 0 → l.size / unit ≡ blocks l
   unfolding blocks
   count_even h =
       let pos : 0 < unit = rw e (size_pos l) in
       let s : l.size + (unit - 1) ≡ l.size / unit * unit + (unit - 1) = omega (arith, mod-add-div' l.size unit) in
       rw (← e, s) (sym (quotient unit (l.size / unit) (unit - 1) pos (omega arith)))
 
-  pub count_odd : (l.size % unit ≡ 0 → ⊥) → l.size / unit + 1 ≡ blocks l
+  count_odd : (l.size % unit ≡ 0 → ⊥) → l.size / unit + 1 ≡ blocks l
   unfolding blocks
   count_odd h =
       let pos : 0 < unit = rw e (size_pos l) in
@@ -159,6 +155,13 @@ module _ (l : Level) (unit : ℕ) (e : unit ≡ block_size l) where
           → l.size + (unit - 1) ≡ suc (l.size / unit) * unit + (r - 1)
       some pos zero q m = absurd (h q)
       some pos (suc r) q m = omega (arith, mod-add-div' l.size unit)
+
+  pub count_up : l.size / unit + min 1 (l.size % unit) ≡ blocks l
+  count_up = go (l.size % unit) refl
+    where
+      go : (r : ℕ) → l.size % unit ≡ r → l.size / unit + min 1 r ≡ blocks l
+      go zero q = add-zero (l.size / unit) ∙ count_even q
+      go (suc r) q = let m : min 1 (suc r) ≡ 1 = omega arith in rw m (count_odd (λ z. omega arith))
 
 -- one block, or none, where a block is larger than the level
 pub count_tiny : (l : Level) → l.size < block_size l → bool_byte (not (eqb l.size 0)) ≡ blocks l

@@ -1,36 +1,57 @@
--- Fields of a part of a list. Assumes nothing.
-use Prim.Native.Nat.{ℕ, ◌+◌, ◌-◌, ◌*◌, ◌≤◌}
+-- Fields read byte by byte. Assumes nothing.
+use Prim.Native.Nat.{ℕ, ◌+◌, ◌-◌, ◌*◌, ◌≤◌, ◌<◌}
 use mathlib.Core.List.{List}
-use mathlib.Core.Path.{◌≡◌, ap, ap₂, ◌∙◌}
+use mathlib.Core.Path.{◌≡◌, ◌∙◌, refl, ap}
 use native.Mathlib.Omega.{arith}
-use native.Mathlib.Nat.{add-zero}
 use lib.ListN.{get_or, take, drop}
+use mir.Syntax.{w32, w64}
+use Rattle.std.specs.Int.{from_le_bytes}
 use Rattle.number.specs.Fields.{le16, le32, le64}
 use Rattle.number.proofs.ListLaws.{get_d_part}
 
-module _ (s : List ℕ) (at size : ℕ) where
-  two_part : (k : ℕ) → k + 2 ≤ size → le16 (take size (drop at s)) k ≡ le16 s (at + k)
-  unfolding le16
-  two_part k h =
-      let e : at + (k + 1) ≡ at + k + 1 = omega arith in
-      ap₂ (λ (x y : ℕ). x + 0x100 * y) (get_d_part s at size k (omega arith))
-      (get_d_part s at size (k + 1) (omega arith) ∙ ap (λ (j : ℕ). get_or s j 0) e)
+module _ (s bytes : List ℕ) (at size : ℕ) (f : (k : ℕ) → k < size → get_or bytes k 0 ≡ get_or s (at + k) 0) where
+  read : (k x : ℕ) → k < size → at + k ≡ x → get_or bytes k 0 ≡ get_or s x 0
+  read k x h e = f k h ∙ ap (λ (y : ℕ). get_or s y 0) e
 
-  four_part : (k : ℕ) → k + 4 ≤ size → le32 (take size (drop at s)) k ≡ le32 s (at + k)
-  unfolding le32
-  four_part k h =
-      let e : at + (k + 2) ≡ at + k + 2 = omega arith in
-      ap₂ (λ (x y : ℕ). x + 0x10000 * y) (two_part k (omega arith)) (two_part (k + 2) (omega arith) ∙ ap (le16 s) e)
+  four_sum : from_le_bytes w32 bytes ≡ get_or bytes 0 0 + get_or bytes 1 0 * 0x100 + get_or bytes 2 0 * 0x10000 + get_or bytes 3 0 * 0x1000000
+  four_sum = refl
 
-  eight_part : (k : ℕ) → k + 8 ≤ size → le64 (take size (drop at s)) k ≡ le64 s (at + k)
-  unfolding le64
-  eight_part k h =
-      let e : at + (k + 4) ≡ at + k + 4 = omega arith in
-      ap₂ (λ (x y : ℕ). x + 0x100000000 * y) (four_part k (omega arith)) (four_part (k + 4) (omega arith) ∙ ap (le32 s) e)
+  pub four_read : 4 ≤ size → from_le_bytes w32 bytes ≡ le32 s at
+  unfolding le32 le16
+  four_read h =
+      four_sum
+      ∙ omega (
+        arith,
+        read 0 at (omega arith) (omega arith),
+        read 1 (at + 1) (omega arith) refl,
+        read 2 (at + 2) (omega arith) refl,
+        read 3 (at + 2 + 1) (omega arith) (omega arith),
+      )
 
--- a field at the front of the part that starts with it, up to a place behind it
-pub four_alone : (s : List ℕ) (at end : ℕ) → at + 4 ≤ end → le32 (take (end - at) (drop at s)) 0 ≡ le32 s at
-four_alone s at end h = four_part s at (end - at) 0 (omega arith) ∙ ap (le32 s) (add-zero at)
+  eight_sum : from_le_bytes w64 bytes
+      ≡ get_or bytes 0 0 + get_or bytes 1 0 * 0x100 + get_or bytes 2 0 * 0x10000 + get_or bytes 3 0 * 0x1000000 + get_or bytes 4 0 * 0x100000000
+      + get_or bytes 5 0 * 0x10000000000 + get_or bytes 6 0 * 0x1000000000000 + get_or bytes 7 0 * 0x100000000000000
+  eight_sum = refl
 
-pub eight_alone : (s : List ℕ) (at end : ℕ) → at + 8 ≤ end → le64 (take (end - at) (drop at s)) 0 ≡ le64 s at
-eight_alone s at end h = eight_part s at (end - at) 0 (omega arith) ∙ ap (le64 s) (add-zero at)
+  pub eight_read : 8 ≤ size → from_le_bytes w64 bytes ≡ le64 s at
+  unfolding le64 le32 le16
+  eight_read h =
+      eight_sum
+      ∙ omega (
+        arith,
+        read 0 at (omega arith) (omega arith),
+        read 1 (at + 1) (omega arith) refl,
+        read 2 (at + 2) (omega arith) refl,
+        read 3 (at + 2 + 1) (omega arith) (omega arith),
+        read 4 (at + 4) (omega arith) refl,
+        read 5 (at + 4 + 1) (omega arith) (omega arith),
+        read 6 (at + 4 + 2) (omega arith) (omega arith),
+        read 7 (at + 4 + 2 + 1) (omega arith) (omega arith),
+      )
+
+-- the bytes of a part that starts at the place
+pub part_read : (s bytes : List ℕ) (at end size : ℕ) → end ≡ at + size → ((k : ℕ) → k < size → get_or bytes k 0 ≡ get_or (take (end - at) (drop at s)) (0 + k) 0)
+    → (k : ℕ) → k < size → get_or bytes k 0 ≡ get_or s (at + k) 0
+part_read s bytes at end size e f k h =
+    let z : 0 + k ≡ k = omega arith in
+    f k h ∙ ap (λ (j : ℕ). get_or (take (end - at) (drop at s)) j 0) z ∙ get_d_part s at (end - at) k (omega arith)

@@ -8,9 +8,10 @@ use native.Mathlib.Nat.{add-zero, zero-add}
 use native.Mathlib.Numerals.{add-one}
 use native.Mathlib.Decide.{ℕ_discrete, dec_lt}
 use lib.ListN.{length, get_or, take, drop, set, replicate, length-set, length-take, length-drop, length-append, length-replicate, replicate-append-replicate, drop_of_length-le}
-use lib.Seq.{ext_get_or, get_or-take, get_or-drop, get_or-set_same, get_or-set_other, sets, sets-eq, length-sets, drop-cons, drop-length, drop_at, take_at, set_at, take-nil, take_all}
+use lib.Seq.{ext_get_or, get_or-take, get_or-drop, get_or-set_same, get_or-set_other, sets, sets-eq, length-sets, drop_at, take_at, set_at, take-nil, take_all}
 use lib.Dec.{eqb}
-use mathlib.Core.Bool.{Bool, true, false, ◌&&◌, and_assoc, true≢false}
+use Rattle.std.specs.Cmp.Lexicographic.{pointwise}
+use mathlib.Core.Bool.{true, ◌&&◌, true≢false}
 use borrow.Author.Tests.{eq-eqb, eqb-true}
 use Rattle.number.specs.Bytes.{bytes, Outside, copied, same_bytes}
 use Rattle.number.proofs.Tests.{and_left, and_right}
@@ -36,14 +37,29 @@ between_or_not first last b = go (dec_lt b first) (dec_lt last b)
 -- ---- parts
 
 module _ (s : List ℕ) (at size : ℕ) where
-  -- a part that starts past the end, and one that ends past it
-  pub part_past : length s ≤ at → [] ≡ take size (drop at s)
-  part_past h = sym (ap (take size) (drop_of_length-le s h) ∙ take-nil size)
-
+  -- a part that ends past the end
   pub part_rest : length s - at ≤ size → take (length s - at) (drop at s) ≡ take size (drop at s)
   part_rest h =
       take_all (length s - at) (drop at s) (simp length-drop (omega arith)) ∙
       sym (take_all size (drop at s) (simp length-drop (omega arith)))
+
+  -- a part as far as it is there, by what is left of the place and of the size
+  pub part_clipped : (x n : ℕ) → x ≡ min (length s) at → n ≡ min (length s - x) size → take (x + n - x) (drop x s) ≡ take size (drop at s)
+  part_clipped x n p q = go (dec_lt at (length s))
+    where
+      go : Dec (at < length s) → take (x + n - x) (drop x s) ≡ take size (drop at s)
+      go (yes h) =
+          let e : x ≡ at = omega arith in
+          let f : x + n - x ≡ min (length s - at) size = omega arith in
+          rw (f, e) (shorter (dec_lt size (length s - at)))
+        where
+          shorter : Dec (size < length s - at) → take (min (length s - at) size) (drop at s) ≡ take size (drop at s)
+          shorter (yes k) = let m : min (length s - at) size ≡ size = omega arith in rw m
+          shorter (no k) = let m : min (length s - at) size ≡ length s - at = omega arith in rw m (part_rest (omega arith))
+      go (no h) =
+          let d : drop at s ≡ [] = drop_of_length-le s (omega arith) in
+          let e : drop x s ≡ [] = drop_of_length-le s (omega arith) in
+          rw (d, e) (take-nil (x + n - x) ∙ sym (take-nil size))
 
   pub length_part : at + size ≤ length s → length (take size (drop at s)) ≡ size
   length_part h = simp (length-take, length-drop) (omega arith)
@@ -147,19 +163,6 @@ sets_at s x (v ∷ vs) (suc m) h k =
 pub sets_in : (s : List ℕ) (x : ℕ) (l : List ℕ) (m : ℕ) → x + length l ≤ length s → m < length l → get_or (sets s x l) (x + m) 0 ≡ get_or l m 0
 sets_in s x l m h k = sets_at s x l m (omega arith) k
 
--- as a loop makes them: nothing stored yet, one more, all
-pub sets_start : (s : List ℕ) (x : ℕ) (l : List ℕ) → sets s x l ≡ sets s (x + 0) (drop 0 l)
-sets_start s x l = rw (add-zero x)
-
-pub sets_step : (s : List ℕ) (x k : ℕ) (l : List ℕ) → k < length l → sets s (x + k) (drop k l) ≡ sets (set s (x + k) (get_or l k 0)) (x + (k + 1)) (drop (k + 1) l)
-sets_step s x k l h =
-    let e : x + (k + 1) ≡ suc (x + k) = omega arith in
-    let f : k + 1 ≡ suc k = omega arith in
-    rw (drop-cons l k 0 h, e, f)
-
-pub sets_end : (s : List ℕ) (x k : ℕ) (l : List ℕ) → length l ≡ k → sets s (x + k) (drop k l) ≡ s
-sets_end s x k l h = rw (← h, drop-length l)
-
 -- ---- a copy within a list
 
 pub length_copied : (s : List ℕ) (source target n : ℕ) → length (copied s source target n) ≡ length s
@@ -220,24 +223,13 @@ same_is (x ∷ a) (y ∷ b) e =
     let q : a ≡ b = same_is a b (and_right (eqb x y) (same_bytes a b) e) in
     cc
 
-pub same_lengths : (a b : List ℕ) → (length a ≡ length b → ⊥) → same_bytes a b ≡ false
-same_lengths a b h = go (same_bytes a b) refl
-  where
-    go : (t : Bool) → same_bytes a b ≡ t → t ≡ false
-    go true e = absurd (h (ap length (same_is a b e)))
-    go false e = refl
-
--- as a loop compares them: a byte, and what is left; at the end nothing is
-pub same_turn : (a b : List ℕ) (i : ℕ) (same : Bool) → i < length a → i < length b
-    → same && same_bytes (drop i a) (drop i b) ≡ (same && eqb (get_or a i 0) (get_or b i 0)) && same_bytes (drop (i + 1) a) (drop (i + 1) b)
+-- as `==` of two slices tests them
+pub same_pointwise : (a b : List ℕ) → pointwise eqb a b ≡ same_bytes a b
 unfolding same_bytes
-same_turn a b i same h k =
-    rw (add-one, drop-cons a i 0 h, drop-cons b i 0 k)
-    (sym (and_assoc same (eqb (get_or a i 0) (get_or b i 0)) (same_bytes (drop (suc i) a) (drop (suc i) b))))
-
-pub same_end : (a b : List ℕ) (i : ℕ) → length a ≡ length b → length a ≤ i → same_bytes (drop i a) (drop i b) ≡ true
-unfolding same_bytes
-same_end a b i e h = rw (drop_of_length-le a h, drop_of_length-le b {i = i} (omega arith))
+same_pointwise [] [] = refl
+same_pointwise [] (y ∷ b) = refl
+same_pointwise (x ∷ a) [] = refl
+same_pointwise (x ∷ a) (y ∷ b) = ap (λ t. eqb x y && t) (same_pointwise a b)
 
 -- ---- stores and copies said as one
 
@@ -320,6 +312,11 @@ pub byte_over_zeros : (n : ℕ) (run : List ℕ) (v : ℕ) → length run < n
 byte_over_zeros n run v h =
     let e : n - length run ≡ suc (n - 1 - length run) = omega arith in
     rw e (set_at run 0 (replicate (n - 1 - length run) 0) v (length run) refl)
+
+-- both at once, where the run is copied into the front
+pub front_over_zeros : (n : ℕ) (run now : List ℕ) (v : ℕ) → length run < n → now ≡ run
+    → set (now ++ drop (length run) (replicate n 0)) (length run) v ≡ run ++ v ∷ replicate (n - 1 - length run) 0
+front_over_zeros n run now v h e = rw (e, drop_zeros n (length run) (omega arith)) (byte_over_zeros n run v h)
 
 -- ---- runs that fill a list
 

@@ -1,11 +1,14 @@
 -- What placed ranges keep to, as orders of numbers. Assumes nothing.
-use Prim.Native.Nat.{ℕ, ◌+◌, ◌-◌, ◌*◌, ◌/◌, ◌≤◌, ◌<◌}
-use mathlib.Core.Bool.{Bool, true, false, ◌&&◌, ◌||◌}
+use Prim.Native.Nat.{ℕ, suc, ◌+◌, ◌-◌, ◌*◌, ◌/◌, ◌≤◌, ◌<◌}
+use mathlib.Core.Bool.{Bool, true, false, ◌&&◌, ◌||◌, and-true}
 use mathlib.Core.List.{List, [], ◌∷◌}
 use mathlib.Core.Logic.{inl, inr}
-use mathlib.Core.Path.{◌≡◌, refl, sym, ap₂}
+use mathlib.Core.Path.{◌≡◌, ◌∙◌, refl, sym, ap, ap₂}
 use native.Mathlib.Omega.{arith}
+use lib.ListN.{length, get_or, take, drop, length-drop, drop_of_length-le}
+use lib.Seq.{take_all, drop-cons}
 use lib.Dec.{leb}
+use Rattle.std.specs.List.{list_all}
 use borrow.Author.Tests.{leb-true, lt-leb}
 use Rattle.number.specs.declared.Range.{Range}
 use Rattle.number.specs.Ranges.{inside, apart, Apart, fits, clear, placed}
@@ -52,6 +55,41 @@ module _ (a b : Range) (rest : List Range) (e : clear a (b ∷ rest) ≡ true) w
   pub clear_rest : clear a rest ≡ true
   unfolding clear
   clear_rest = and_left (clear a rest) (apart a b) e
+
+-- as `all` asks it
+and_turn : (a b : Bool) → a && b ≡ b && a
+and_turn true true = refl
+and_turn true false = refl
+and_turn false true = refl
+and_turn false false = refl
+
+pub all_clear : (a : Range) (rest : List Range) → list_all (apart a) rest ≡ clear a rest
+unfolding clear
+all_clear a [] = refl
+all_clear a (b ∷ rest) = and_turn (apart a b) (list_all (apart a) rest) ∙ ap (λ t. t && apart a b) (all_clear a rest)
+
+-- as a loop asks it: the range at i, then those after it
+module _ (n : ℕ) (l : List Range) (i : ℕ) (d : Range) (f k : Bool) (h : i < length l)
+    (p : f ≡ fits n (get_or l i d)) (q : k ≡ clear (get_or l i d) (take (length l - (i + 1)) (drop (i + 1) l))) where
+  placed_here : placed n (drop i l) ≡ placed n (drop (i + 1) l) && (k && f)
+  unfolding placed
+  placed_here =
+      let w : take (length l - (i + 1)) (drop (i + 1) l) ≡ drop (i + 1) l = take_all _ (drop (i + 1) l) (simp length-drop (omega arith)) in
+      let r : k ≡ clear (get_or l i d) (drop (i + 1) l) = q ∙ ap (clear (get_or l i d)) w in
+      let e : suc i ≡ i + 1 = omega arith in
+      ap (placed n) (drop-cons l i d h ∙ ap (λ j. get_or l i d ∷ drop j l) e) ∙ λ j. placed n (drop (i + 1) l) && (sym r j && sym p j)
+
+  pub placed_turn : f && k ≡ true → placed n (drop i l) ≡ placed n (drop (i + 1) l)
+  placed_turn e =
+      let g : k && f ≡ true = and_turn k f ∙ e in
+      placed_here ∙ ap (λ t. placed n (drop (i + 1) l) && t) g ∙ and-true (placed n (drop (i + 1) l))
+
+  pub placed_stop : f && k ≡ false → placed n (drop i l) ≡ false
+  placed_stop e = placed_here ∙ right_fails (placed n (drop (i + 1) l)) (k && f) (and_turn k f ∙ e)
+
+pub placed_end : (n : ℕ) (l : List Range) (i : ℕ) → length l ≤ i → placed n (drop i l) ≡ true
+unfolding placed
+placed_end n l i h = rw (drop_of_length-le l h)
 
 -- all that placed ranges keep to, range by range
 abbrev pub AllApart : Range → List Range → Type 0

@@ -1,5 +1,5 @@
 // A level's blocks: how many there are, how large they are, and in which one a byte lies.
-ghost use Rattle.std.specs.Prelude.{◌≡◌, ◌*◌, ◌<◌, ◌≤◌, min, max};
+ghost use Rattle.std.specs.Prelude.{◌≡◌, ◌*◌, ◌<◌, ◌≤◌};
 ghost use Rattle.number.specs.Blocks.{block_size, blocks, block_of, block_length};
 
 use super::Level;
@@ -20,11 +20,7 @@ pub fn block_count(l: Level) -> u64
         return (l.size != 0) as u64;
     }
     let unit = block_size(l);
-    if l.size % unit == 0 {
-        l.size / unit
-    } else {
-        l.size / unit + 1
-    }
+    l.size.div_ceil(unit)
 }
 
 // The block that the byte at a place of the level lies in.
@@ -42,17 +38,5 @@ pub fn block_length(l: Level, b: u64) -> u64
     ensures { result ≡ block_length l b }
 {
     let unit = block_size(l);
-    lesser(unit, l.size - b * unit)
-}
-
-pub fn lesser(a: u64, b: u64) -> u64
-    ensures { result ≡ min a b }
-{
-    if a < b { a } else { b }
-}
-
-pub fn greater(a: u64, b: u64) -> u64
-    ensures { result ≡ max a b }
-{
-    if a < b { b } else { a }
+    unit.min(l.size - b * unit)
 }

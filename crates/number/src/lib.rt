@@ -8,14 +8,14 @@ pub mod ranges;
 pub mod runs;
 
 // A range of bytes: where it starts, and how many it has.
-#[derive(Clone, Copy)]
+#[derive(Clone, Copy, PartialEq, Eq, Debug)]
 pub struct Range {
     pub offset: u64,
     pub size: u64,
 }
 
 // A level: where it starts, its size in bytes, and the logarithm of its block size.
-#[derive(Clone, Copy)]
+#[derive(Clone, Copy, PartialEq, Eq, Debug)]
 pub struct Level {
     pub offset: u64,
     pub size: u64,

@@ -17,7 +17,7 @@ fn with_bit(b: u8, k: u64) -> u8
     requires { k < 8 }
     ensures { result ≡ (b + 2 ^ k) % 0x100 }
 {
-    ((b as u64 + (1 << k)) % 0x100) as u8
+    b.wrapping_add(1 << k)
 }
 
 pub fn is_marked(marks: &[u8], e: u64) -> bool

@@ -1,7 +1,7 @@
 // Rules on ranges, for any values of their fields: every rule is about whole numbers, so the code compares and subtracts and never
 // forms a sum that might not fit.
-ghost use Rattle.std.specs.Prelude.{◌≡◌, [], ◌∷◌, ◌*◌, ◌^◌, ◌<◌, ◌+◌};
-ghost use Rattle.number.specs.Ranges.{inside, apart, fits, placed, twice, part};
+ghost use Rattle.std.specs.Prelude.{◌≡◌, ◌*◌, ◌^◌, ◌<◌};
+ghost use Rattle.number.specs.Ranges.{inside, apart, fits, clear, placed, twice, part};
 
 use super::Range;
 
@@ -9,11 +9,7 @@ use super::Range;
 pub fn lies_inside(offset: u64, size: u64, whole: u64) -> bool
     ensures { result ≡ inside offset size whole }
 {
-    if offset <= whole {
-        size <= whole - offset
-    } else {
-        false
-    }
+    offset <= whole && size <= whole - offset
 }
 
 // One range ends before the other starts, or where it starts.
@@ -30,46 +26,30 @@ pub fn fits_in(whole: u64, a: Range) -> bool
     (1 <= a.size) & lies_inside(a.offset, a.size, whole)
 }
 
-// The ranges fit in the whole, pairwise apart: two, three, four and five of them.
-pub fn two_placed(whole: u64, a: Range, b: Range) -> bool
-    ensures { result ≡ placed whole (a ∷ b ∷ []) }
+// The range is apart from each of the others.
+fn is_clear(a: Range, others: &[Range]) -> bool
+    ensures { result ≡ clear a others.now }
 {
-    fits_in(whole, b) & (lie_apart(a, b) & fits_in(whole, a))
+    others.iter().all(|b| lie_apart(a, *b))
 }
 
-pub fn three_placed(whole: u64, a: Range, b: Range, c: Range) -> bool
-    ensures { result ≡ placed whole (a ∷ b ∷ c ∷ []) }
+// The ranges fit in the whole, pairwise apart.
+pub fn are_placed(whole: u64, ranges: &[Range]) -> bool
+    ensures { result ≡ placed whole ranges.now }
 {
-    two_placed(whole, b, c) & (lie_apart(a, c) & lie_apart(a, b) & fits_in(whole, a))
-}
-
-pub fn four_placed(whole: u64, a: Range, b: Range, c: Range, d: Range) -> bool
-    ensures { result ≡ placed whole (a ∷ b ∷ c ∷ d ∷ []) }
-{
-    three_placed(whole, b, c, d)
-        & (lie_apart(a, d) & lie_apart(a, c) & lie_apart(a, b) & fits_in(whole, a))
-}
-
-pub fn five_placed(whole: u64, a: Range, b: Range, c: Range, d: Range, e: Range) -> bool
-    ensures { result ≡ placed whole (a ∷ b ∷ c ∷ d ∷ e ∷ []) }
-{
-    four_placed(whole, b, c, d, e)
-        & (lie_apart(a, e)
-            & lie_apart(a, d)
-            & lie_apart(a, c)
-            & lie_apart(a, b)
-            & fits_in(whole, a))
+    for (i, a) in ranges.iter().enumerate() {
+        if !(fits_in(whole, *a) & is_clear(*a, &ranges[i + 1..])) {
+            return false;
+        }
+    }
+    true
 }
 
 // A pair of halves, of one half's size each, fits in the whole.
 pub fn pair_fits(whole: u64, a: Range) -> bool
     ensures { result ≡ fits whole (twice a) }
 {
-    if a.offset <= whole {
-        (1 <= a.size) & (a.size <= (whole - a.offset) / 2)
-    } else {
-        false
-    }
+    a.offset <= whole && (1 <= a.size) & (a.size <= (whole - a.offset) / 2)
 }
 
 // The range of a pair of halves, from that of the first.
@@ -87,14 +67,7 @@ pub fn pair_of(a: Range) -> Range
 pub fn part_of(s: &[u8], a: Range) -> &[u8]
     ensures { result.now ≡ part s.now a }
 {
-    let start = a.offset as usize;
-    let size = a.size as usize;
-    if s.len() <= start {
-        return &s[..0];
-    }
-    if size <= s.len() - start {
-        &s[start..start + size]
-    } else {
-        &s[start..]
-    }
+    let start = s.len().min(a.offset as usize);
+    let size = (s.len() - start).min(a.size as usize);
+    &s[start..start + size]
 }

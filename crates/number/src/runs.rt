@@ -3,20 +3,11 @@ ghost use Rattle.std.specs.Prelude.{◌≡◌, ◌+◌, ◌≤◌, length};
 ghost use Rattle.std.proofs.lemmas.List.Edits.{sets};
 ghost use Rattle.number.specs.Bytes.{same_bytes};
 
-// Two slices have the same bytes.
+// Two slices have the same bytes. A name for `==`, under which the definitions speak of it.
 pub fn same_bytes(a: &[u8], b: &[u8]) -> bool
     ensures { result ≡ same_bytes a.now b.now }
 {
-    if a.len() != b.len() {
-        return false;
-    }
-    let mut same = true;
-    let mut i = 0;
-    while i < a.len() {
-        same = same & (a[i] == b[i]);
-        i += 1;
-    }
-    same
+    a == b
 }
 
 // Stores a run into a slice.
@@ -24,9 +15,8 @@ pub fn copy_into(target: &mut [u8], at: usize, run: &[u8])
     requires { at + length run.now ≤ length target.old }
     ensures { target.new ≡ sets target.old at run.now }
 {
-    let mut k = 0;
-    while k < run.len() {
-        target[at + k] = run[k];
-        k += 1;
+    // Byte by byte: what a commit stores of the header, each byte once, is read in these statements (tests/stores).
+    for (k, value) in run.iter().enumerate() {
+        target[at + k] = *value;
     }
 }

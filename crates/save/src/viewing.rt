@@ -1,14 +1,11 @@
 // What the two calls are made of: which containers hold a save, and the names and files of a view's level 4.
-ghost use Rattle.std.specs.Prelude.{◌≡◌, false, length};
-ghost use Rattle.ivfc.specs.Rules.{ViewRules};
+ghost use Rattle.std.specs.Prelude.{◌≡◌, false};
 ghost use Rattle.views.specs.Versions.{version_of};
-ghost use Rattle.save.specs.Calls.{is_disa, holds_save, names_of, sought_of, file_of};
-ghost use Rattle.save.specs.Answers.{listed_by};
+ghost use Rattle.save.specs.Calls.{is_disa, holds_save, save_refusal, entry_refusal, names_of, file_of};
 
-use super::{Listed, Sought};
-use ivfc::View;
+use ivfc::Reader;
 use layout::{Container, Kind, Refusal};
-use names::{SaveOpened, Search, Walked};
+use names::{EntryError, SaveError};
 use walks::listing::list_all;
 use walks::opening::open_save;
 use walks::searching::find;
@@ -20,69 +17,52 @@ const MARKS: usize = 262_144;
 fn is_disa(kind: Kind) -> bool
     ensures { result ≡ is_disa kind }
 {
-    match kind {
-        Kind::Disa => true,
-        Kind::Diff => false,
-    }
+    kind == Kind::Disa
 }
 
 // A DISA of one partition with internal level 4.
 pub fn holds_save(c: Container) -> bool
     ensures { result ≡ holds_save c }
 {
-    let header = c.header;
-    let kind = header.kind;
-    is_disa(kind) & ((c.header.count == 1) & !c.a.difi.external)
+    is_disa(c.header.kind) & ((c.header.count == 1) & !c.a.difi.external)
 }
 
-// What a walk answers.
-fn listed_by(walked: Walked) -> Listed
-    ensures { result ≡ listed_by walked }
+// Why a save is not opened, as a call refuses it.
+fn save_refusal(e: SaveError) -> Refusal
+    ensures { result ≡ save_refusal e }
 {
-    match walked {
-        Walked::Met(n) => Listed::Names(n),
-        Walked::Invalid => Listed::Refused(Refusal::InvalidEntry),
-        Walked::Unverified(b) => Listed::Refused(Refusal::Unverified(b)),
+    match e {
+        SaveError::NoSave => Refusal::NoSave,
+        SaveError::Unverified(b) => Refusal::Unverified(b),
+    }
+}
+
+// Why an entry may not be met, as a call refuses it.
+fn entry_refusal(e: EntryError) -> Refusal
+    ensures { result ≡ entry_refusal e }
+{
+    match e {
+        EntryError::Invalid => Refusal::InvalidEntry,
+        EntryError::Unverified(b) => Refusal::Unverified(b),
     }
 }
 
 // The names of a view's level 4.
-pub fn list_view(view: View, image: &[u8], row: &mut [u8]) -> Listed
-    requires { (ViewRules view (length image.now)) × (view.external ≡ false) }
-    ensures answer { result ≡ (names_of (version_of view image.now) row.old).answer }
-    ensures names { row.new ≡ (names_of (version_of view image.now) row.old).row }
+pub fn list_view(reader: Reader<'_>, row: &mut [u8]) -> Result<u64, Refusal>
+    requires { reader.view.external ≡ false }
+    ensures answer { result ≡ (names_of (version_of reader.entry.view reader.entry.image.now) row.old).answer }
+    ensures names { row.new ≡ (names_of (version_of reader.entry.view reader.entry.image.now) row.old).row }
 {
     let mut known = [0u8; MARKS];
-    let entered = open_save(view, image, &mut known);
-    match entered {
-        SaveOpened::NoSave => Listed::Refused(Refusal::NoSave),
-        SaveOpened::Unverified(b) => Listed::Refused(Refusal::Unverified(b)),
-        SaveOpened::Valid(s) => listed_by(list_all(s, view, image, &mut known, row)),
-    }
-}
-
-// What a search answers.
-fn sought_by(found: Search) -> Sought
-    ensures { result ≡ sought_of found }
-{
-    match found {
-        Search::File(f) => Sought::File(f),
-        Search::Nothing => Sought::Nothing,
-        Search::Invalid => Sought::Refused(Refusal::InvalidEntry),
-        Search::Unverified(b) => Sought::Refused(Refusal::Unverified(b)),
-    }
+    let s = open_save(reader, &mut known).map_err(save_refusal)?;
+    list_all(s, reader, &mut known, row).map_err(entry_refusal)
 }
 
 // The file of a view's level 4.
-pub fn find_in(view: View, image: &[u8], folder: u64, name: &[u8]) -> Sought
-    requires { ViewRules view (length image.now) }
-    ensures { result ≡ file_of (version_of view image.now) folder name.now }
+pub fn find_in(reader: Reader<'_>, folder: u64, name: &[u8]) -> Result<Option<u64>, Refusal>
+    ensures { result ≡ file_of (version_of reader.entry.view reader.entry.image.now) folder name.now }
 {
     let mut known = [0u8; MARKS];
-    let entered = open_save(view, image, &mut known);
-    match entered {
-        SaveOpened::NoSave => Sought::Refused(Refusal::NoSave),
-        SaveOpened::Unverified(b) => Sought::Refused(Refusal::Unverified(b)),
-        SaveOpened::Valid(s) => sought_by(find(s, view, image, &mut known, folder, name)),
-    }
+    let s = open_save(reader, &mut known).map_err(save_refusal)?;
+    find(s, reader, &mut known, folder, name).map_err(entry_refusal)
 }

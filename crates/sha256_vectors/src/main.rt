@@ -11,17 +11,12 @@ use std::io;
 // How many bytes the message of the rule has.
 const LENGTH: usize = 6400;
 
+// Bytes have no `Display`, and a type for them would be made for this line alone.
 fn print(rt: &impl Print, digest: [u8; 32]) -> io::Result<()> {
-    let mut i = 0;
-    while i < 32 {
-        print!(rt; "{:02x}", wide(digest[i]))?;
-        i += 1;
+    for byte in digest.iter() {
+        print!(rt; "{byte:02x}")?;
     }
     println!(rt;)
-}
-
-fn wide(byte: u8) -> u64 {
-    byte as u64
 }
 
 fn print_named(rt: &impl Print, name: &[u8], number: usize, digest: [u8; 32]) -> io::Result<()> {
@@ -33,10 +28,8 @@ fn print_named(rt: &impl Print, name: &[u8], number: usize, digest: [u8; 32]) ->
 // The message of the rule: byte i is 7 i + i / 256, modulo 256.
 fn ruled() -> [u8; LENGTH] {
     let mut message = [0u8; LENGTH];
-    let mut i = 0;
-    while i < LENGTH {
-        message[i] = ((i * 7 + i / 256) % 256) as u8;
-        i += 1;
+    for (i, byte) in message.iter_mut().enumerate() {
+        *byte = ((i * 7 + i / 256) % 256) as u8;
     }
     message
 }
@@ -51,10 +44,8 @@ fn prefix(rt: &impl Print, message: &[u8], n: usize) -> io::Result<()>
 fn prefixes(rt: &impl Print, message: &[u8]) -> io::Result<()>
     requires { length message.now ≡ 6400 }
 {
-    let mut n = 0;
-    while n < 131 {
+    for n in 0..131 {
         prefix(rt, message, n)?;
-        n += 1;
     }
     prefix(rt, message, 163)?;
     prefix(rt, message, 1000)?;
@@ -64,26 +55,14 @@ fn prefixes(rt: &impl Print, message: &[u8]) -> io::Result<()>
     prefix(rt, message, LENGTH)
 }
 
-fn piece_end(at: usize, size: usize, n: usize) -> usize
-    requires { (0 < size) × (at < n) }
-    ensures { (at < result) × (result ≤ n) }
-{
-    if n - at < size { n } else { at + size }
-}
-
 // The digest of a message that is fed in pieces of size bytes: whatever the size, that of the whole.
 fn in_pieces(message: &[u8], size: usize) -> [u8; 32]
     requires { (0 < size) × (length message.now ≤ 6400) }
     ensures { result ≡ SHA-256 message.now }
 {
-    let n = message.len();
     let mut fed = running::start();
-    let mut at = 0;
-    while at < n {
-        let end = piece_end(at, size, n);
-        let next = running::update(fed, &message[at..end]);
-        fed = next;
-        at = end;
+    for piece in message.chunks(size) {
+        fed = running::update(fed, piece);
     }
     running::finish(fed)
 }
@@ -92,10 +71,8 @@ fn in_pieces(message: &[u8], size: usize) -> [u8; 32]
 fn pieces(rt: &impl Print, message: &[u8]) -> io::Result<()>
     requires { length message.now ≡ 6400 }
 {
-    let mut size = 1;
-    while size < 131 {
+    for size in 1..131 {
         print_named(rt, b"pieces of ", size, in_pieces(&message[..1000], size))?;
-        size += 1;
     }
     Ok(())
 }
@@ -104,11 +81,8 @@ fn pieces(rt: &impl Print, message: &[u8]) -> io::Result<()>
 fn million() -> [u8; 32] {
     let piece = [97u8; 1000];
     let mut fed = running::start();
-    let mut i: u32 = 0;
-    while i < 1000 {
-        let next = running::update(fed, &piece);
-        fed = next;
-        i += 1;
+    for _i in 0..1000u32 {
+        fed = running::update(fed, &piece);
     }
     running::finish(fed)
 }
@@ -139,13 +113,8 @@ fn shifted(three: [u8; 96], digest: [u8; 32]) -> [u8; 96]
     ensures { length result ≡ 96 }
 {
     let mut next = three;
-    let mut i = 0;
-    while i < 32 {
-        next[i] = three[i + 32];
-        next[i + 32] = three[i + 64];
-        next[i + 64] = digest[i];
-        i += 1;
-    }
+    next.rotate_left(32);
+    next[64..].copy_from_slice(&digest);
     next
 }
 
@@ -153,13 +122,11 @@ fn shifted(three: [u8; 96], digest: [u8; 32]) -> [u8; 96]
 fn chain(seed: [u8; 32]) -> [u8; 32] {
     let mut three = shifted(shifted(shifted([0u8; 96], seed), seed), seed);
     let mut last = seed;
-    let mut i: u32 = 0;
-    while i < 1000 {
+    for _i in 0..1000 {
         let digest = sha256::digest(&three);
         let next = shifted(three, digest);
         three = next;
         last = digest;
-        i += 1;
     }
     last
 }
@@ -167,12 +134,10 @@ fn chain(seed: [u8; 32]) -> [u8; 32] {
 fn chains(rt: &impl Print) -> io::Result<()> {
     let mut seed =
         *b"\xf4\x1e\xce\x26\x13\xe4\x57\x39\x15\x69\x6b\x5a\xdc\xd5\x1c\xa3\x28\xbe\x3b\xf5\x66\xa9\xca\x99\xc9\xce\xb0\x27\x9c\x1c\xb0\xa7";
-    let mut i = 0;
-    while i < 100 {
+    for i in 0..100 {
         let next = chain(seed);
         seed = next;
         print_named(rt, b"chain ", i, seed)?;
-        i += 1;
     }
     Ok(())
 }

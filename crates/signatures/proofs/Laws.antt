@@ -1,4 +1,5 @@
 -- Signed opening, as the functions cite it, and what other crates may cite of it. Assumes nothing.
+use Rattle.std.specs.Prelude.{Result, Ok, Err}
 use mathlib.Core.Path.{◌≡◌, sym, ap, ◌∙◌}
 use mathlib.Core.Bool.{Bool, true, false, cond}
 use mathlib.Core.List.{List}
@@ -10,10 +11,6 @@ use Rattle.number.specs.Ranges.{part}
 use Rattle.number.specs.Bytes.{same_bytes}
 use Rattle.number.proofs.Tests.{and_both}
 use Rattle.cmac.proofs.Laws.{length_cmac}
-use Rattle.layout.specs.declared.Opened.{Opened}
-use Rattle.layout.specs.declared.Opened.TheVariants as opening
-use Rattle.layout.specs.declared.Outcome.{Outcome}
-use Rattle.layout.specs.declared.Outcome.TheVariants as outcome
 use Rattle.layout.specs.declared.Refusal.{Refusal}
 use Rattle.layout.specs.declared.Refusal.TheVariants.{Length, Signature}
 use Rattle.layout.specs.declared.Container.{Container}
@@ -38,22 +35,22 @@ check_made image key front header expected signer r f h e s = s ∙ rw (f, e, h)
 
 -- ---- what the opening answers
 
-module _ (image key : List ℕ) (signer : Signer) (answer : Opened) (o : answer ≡ opened image) where
+module _ (image key : List ℕ) (signer : Signer) (answer : Result Container Refusal) (o : answer ≡ opened image) where
   pub opening_first : comes_first answer ≡ true → answer ≡ opened_signed image key signer
   unfolding opened_signed
   opening_first t = rw (opened_signed, ← o, t)
 
-  module _ (out : Outcome) (k : out ≡ outcome_of (signed image signer)) (f : comes_first answer ≡ false) where
-    pub signer_refused : (r : Refusal) → out ≡ outcome.Refused r → opening.Refused r ≡ opened_signed image key signer
+  module _ (out : Result (Unit {0}) Refusal) (k : out ≡ outcome_of (signed image signer)) (f : comes_first answer ≡ false) where
+    pub signer_refused : (r : Refusal) → out ≡ Err r → Err r ≡ opened_signed image key signer
     unfolding opened_signed
     signer_refused r e = rw (opened_signed, ← o, f, refused_is (signed image signer) r (sym k ∙ e))
 
-    module _ (a : out ≡ outcome.Accepted) (same : Bool) (s : same ≡ same_bytes (part image signature_range) (signature key signer (header_bytes image))) where
+    module _ (a : out ≡ Ok tt) (same : Bool) (s : same ≡ same_bytes (part image signature_range) (signature key signer (header_bytes image))) where
       pub signature_fits : same ≡ true → answer ≡ opened_signed image key signer
       unfolding opened_signed
       signature_fits t = rw (opened_signed, ← o, f, (accepted_is image signer (sym k ∙ a)).0, sym s ∙ t) o
 
-      pub signature_differs : same ≡ false → opening.Refused Signature ≡ opened_signed image key signer
+      pub signature_differs : same ≡ false → Err Signature ≡ opened_signed image key signer
       unfolding opened_signed
       signature_differs t = rw (opened_signed, ← o, f, (accepted_is image signer (sym k ∙ a)).0, sym s ∙ t)
 

@@ -11,7 +11,7 @@ use cmac::code;
 use layout::headers::header_of;
 use layout::opening::open;
 use layout::refusals::number_of;
-use layout::{Opened, Outcome, Refusal};
+use layout::{Container, Refusal};
 use number::Range;
 use number::ranges::part_of;
 use number::runs::same_bytes;
@@ -48,31 +48,26 @@ fn is_signed(image: &[u8], key: [u8; 16], signer: Signer) -> bool
 }
 
 // Opening's answer comes before 15 and 16.
-fn comes_first(answer: Opened) -> bool
+fn comes_first(answer: Result<Container, Refusal>) -> bool
     ensures { result ≡ comes_first answer }
 {
     match answer {
-        Opened::Valid(_) => false,
-        Opened::Refused(refusal) => number_of(refusal) <= LAST_BEFORE,
+        Ok(_) => false,
+        Err(refusal) => number_of(refusal) <= LAST_BEFORE,
     }
 }
 
 // Opens an image that is signed: 1, 2, 3, then 15, then 16, then 4 and on.
-pub fn open_signed(image: &[u8], key: [u8; 16], signer: Signer) -> Opened
+pub fn open_signed(image: &[u8], key: [u8; 16], signer: Signer) -> Result<Container, Refusal>
     ensures { result ≡ opened_signed image.now key signer }
 {
     let answer = open(image);
     if comes_first(answer) {
         return answer;
     }
-    match judge_signer(image, signer) {
-        Outcome::Accepted => {
-            if is_signed(image, key, signer) {
-                answer
-            } else {
-                Opened::Refused(Refusal::Signature)
-            }
-        }
-        Outcome::Refused(refusal) => Opened::Refused(refusal),
+    judge_signer(image, signer)?;
+    if !is_signed(image, key, signer) {
+        return Err(Refusal::Signature);
     }
+    answer
 }

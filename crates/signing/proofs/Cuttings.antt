@@ -7,7 +7,9 @@ use lib.ListN.{length, length-append}
 use Rattle.sha256.specs.Running.{longest, State, state_of, advanced, advanced_by, joined, digest_of}
 use Rattle.sha256.specs.declared.running.Running.{Running}
 use Rattle.sha256.proofs.States.{any_cutting}
-use Rattle.signing.specs.Digests.{AnyCutting, FedBy}
+use Rattle.std.specs.Prelude.{Ok}
+use Rattle.layout.specs.Refusals.{Answers, outcome_says}
+use Rattle.signing.specs.Digests.{AnyCutting, FedBy, after_feeding}
 
 advanced_total : (s : State) (piece : List ℕ) → (advanced s piece).total ≡ s.total + length piece
 unfolding advanced
@@ -21,14 +23,15 @@ fed_by before after [] h e = (ap state_of e, subst (λ (z : Running). z.total �
 fed_by before after (piece ∷ pieces) h (fed, feeds, more) =
     let split = length-append piece (joined pieces) in
     let fits : before.total + length piece ≤ longest = omega (arith, h, split) in
-    let e : state_of fed.running ≡ advanced (state_of before) piece = (feeds.accepted fits).1 in
-    let total : fed.running.total ≡ before.total + length piece = ap (λ (s : State). s.total) e ∙ advanced_total (state_of before) piece in
-    let rest = fed_by fed.running after pieces (omega (arith, h, total, split)) more in
+    let (next, a, e) = feeds.accepted fits in
+    let total : next.total ≡ before.total + length piece = ap (λ (s : State). s.total) e ∙ advanced_total (state_of before) piece in
+    let own : FedBy next pieces after = subst (λ (z : Running). FedBy z pieces after) (ap (after_feeding before) a.case) more in
+    let rest = fed_by next after pieces (omega (arith, h, total, split)) own in
     (rest.0 ∙ ap (λ (s : State). advanced_by s pieces) e, rest.1)
 
 pub cuttings : AnyCutting
 cuttings start last pieces end e h fed finishes =
     let zero : start.total ≡ 0 = ap (λ (s : State). s.total) e in
     let all = fed_by start last pieces (omega (arith, h, zero)) fed in
-    let ends = finishes.accepted all.1 in
-    (ends.0, ends.1 ∙ ap digest_of (all.0 ∙ ap (λ (s : State). advanced_by s pieces) e) ∙ any_cutting pieces)
+    subst (λ (d : List ℕ). Answers outcome_says end (Ok d))
+    (ap digest_of (all.0 ∙ ap (λ (s : State). advanced_by s pieces) e) ∙ any_cutting pieces) (finishes.accepted all.1)

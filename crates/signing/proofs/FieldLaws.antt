@@ -2,6 +2,7 @@
 use mathlib.Core.Path.{◌≡◌, refl, sym, ap, ◌∙◌}
 use mathlib.Core.List.{List, [], ◌∷◌, ◌++◌, append_assoc}
 use mathlib.Core.Logic.{inl, inr}
+use Rattle.std.specs.Prelude.{Option, Some, None}
 use Prim.Native.Nat.{ℕ, zero, suc, ◌+◌, ◌-◌, ◌*◌, ◌/◌, ◌%◌, ◌^◌, ◌≤◌, ◌<◌}
 use native.Mathlib.Omega.{arith}
 use native.Mathlib.Nat.{div-lt_iff_lt-mul, pow-suc}
@@ -14,6 +15,7 @@ use Rattle.number.specs.Ranges.{part}
 use Rattle.number.proofs.ListLaws.{sets_append}
 use Rattle.signing.specs.declared.Field.{Field}
 use Rattle.signing.specs.Blocks.{laid_out, block, field}
+use Rattle.signing.specs.Rules.{somes}
 use Rattle.signing.specs.Placing.{number_of, offset_of, Placing}
 
 pub length_field : (size value : ℕ) → length (field_bytes size value) ≡ size
@@ -85,40 +87,38 @@ field_step s at size k rest h =
     ap (λ (j : ℕ). sets s (at + k) (field_bytes j rest)) n
     ∙ ap (λ (y : ℕ). sets (set s (at + k) (rest % 0x100)) y (field_bytes (size - (k + 1)) (rest / 0x100))) x
 
-pub field_starts : (s : List ℕ) (at size value : ℕ) → sets s (at + 0) (field_bytes (size - 0) value) ≡ sets s at (field_bytes size value)
-field_starts s at size value =
-    let x : at + 0 ≡ at = omega arith in
-    let n : size - 0 ≡ size = omega arith in
-    rw (x, n) refl
-
 pub field_ends : (s : List ℕ) (at size k rest : ℕ) → size ≤ k → s ≡ sets s (at + k) (field_bytes (size - k) rest)
 unfolding field_bytes
 field_ends s at size k rest h =
     let n : size - k ≡ 0 = omega arith in
     ap (λ (j : ℕ). sets s (at + k) (field_bytes j rest)) (sym n)
 
--- one field more
-pub laid_step : (fields : List Field) (k : ℕ) → k < length fields
-    → laid_out (drop k fields) ≡ field_bytes (get_or fields k (field 0 0)).size (get_or fields k (field 0 0)).value ++ laid_out (drop (k + 1) fields)
-unfolding laid_out
-laid_step fields k h = ap laid_out (drop-cons fields k (field 0 0) h) ∙ ap (λ (j : ℕ). field_bytes (get_or fields k (field 0 0)).size (get_or fields k (field 0 0)).value ++ laid_out (drop j fields)) (sym (add-one k))
+-- what is left of the fields: one more, where there is one
+module _ (fields : List (Option Field)) (k : ℕ) (h : k < length fields) where
+  none_here : get_or fields k None ≡ None → somes (drop k fields) ≡ somes (drop (k + 1) fields)
+  none_here e = rw (add-one k, drop-cons fields k None h, e) refl
 
-module _ (fields : List Field) (k : ℕ) (h : k < length fields) where
-  pub left_length : length (laid_out (drop k fields)) ≡ (get_or fields k (field 0 0)).size + length (laid_out (drop (k + 1) fields))
-  left_length =
-      let f : Field = get_or fields k (field 0 0) in
-      ap length (laid_step fields k h) ∙ length-append (field_bytes f.size f.value) (laid_out (drop (k + 1) fields))
-      ∙ ap (λ (n : ℕ). n + length (laid_out (drop (k + 1) fields))) (length_field f.size f.value)
+  pub left_none : get_or fields k None ≡ None → laid_out (somes (drop (k + 1) fields)) ≡ laid_out (somes (drop k fields))
+  left_none e = ap laid_out (sym (none_here e))
 
-  pub left_stored : (s after : List ℕ) (end : ℕ) → after ≡ sets s end (field_bytes (get_or fields k (field 0 0)).size (get_or fields k (field 0 0)).value)
-      → sets after (end + (get_or fields k (field 0 0)).size) (laid_out (drop (k + 1) fields)) ≡ sets s end (laid_out (drop k fields))
-  left_stored s after end e =
-      let f : Field = get_or fields k (field 0 0) in
-      ap (λ (t : List ℕ). sets t (end + f.size) (laid_out (drop (k + 1) fields))) e
-      ∙ sets_append s end (end + f.size) (field_bytes f.size f.value) (laid_out (drop (k + 1) fields)) (ap (λ (n : ℕ). end + n) (sym (length_field f.size f.value)))
-      ∙ ap (sets s end) (sym (laid_step fields k h))
+  module _ (f : Field) (e : get_or fields k None ≡ Some f) where
+    laid_step : laid_out (somes (drop k fields)) ≡ field_bytes f.size f.value ++ laid_out (somes (drop (k + 1) fields))
+    unfolding laid_out
+    laid_step = rw (add-one k, drop-cons fields k None h, e) refl
+
+    pub left_length : length (laid_out (somes (drop k fields))) ≡ f.size + length (laid_out (somes (drop (k + 1) fields)))
+    left_length =
+        ap length laid_step ∙ length-append (field_bytes f.size f.value) (laid_out (somes (drop (k + 1) fields)))
+        ∙ ap (λ (n : ℕ). n + length (laid_out (somes (drop (k + 1) fields)))) (length_field f.size f.value)
+
+    pub left_stored : (s after : List ℕ) (end : ℕ) → after ≡ sets s end (field_bytes f.size f.value)
+        → sets after (end + f.size) (laid_out (somes (drop (k + 1) fields))) ≡ sets s end (laid_out (somes (drop k fields)))
+    left_stored s after end e =
+        ap (λ (t : List ℕ). sets t (end + f.size) (laid_out (somes (drop (k + 1) fields)))) e
+        ∙ sets_append s end (end + f.size) (field_bytes f.size f.value) (laid_out (somes (drop (k + 1) fields))) (ap (λ (n : ℕ). end + n) (sym (length_field f.size f.value)))
+        ∙ ap (sets s end) (sym laid_step)
 
 -- all fields are stored
-pub none_left : (fields : List Field) (k : ℕ) → length fields ≤ k → laid_out (drop k fields) ≡ []
+pub all_stored : (fields : List (Option Field)) (k : ℕ) → length fields ≤ k → laid_out (somes (drop k fields)) ≡ []
 unfolding laid_out
-none_left fields k h = ap laid_out (drop_of_length-le fields h)
+all_stored fields k h = ap (λ (l : List (Option Field)). laid_out (somes l)) (drop_of_length-le fields h)

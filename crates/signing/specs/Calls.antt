@@ -1,19 +1,14 @@
 -- The calls that a signing box makes on an image: only 1, 2 and 15 apply, in that order.
-use Rattle.std.specs.Prelude.{Bool, true, false, cond, List, ◌++◌, ℕ, ◌-◌, length, replicate}
+use Rattle.std.specs.Prelude.{Bool, true, false, cond, List, ◌++◌, ℕ, ◌-◌, length, replicate, Result, Ok, Err}
 use Rattle.std.proofs.Math.Option.{Option, none, some}
 use Rattle.sha256.specs.Sha256.{sha256}
 use Rattle.layout.specs.declared.Kind.{Kind}
 use Rattle.layout.specs.declared.Kind.TheVariants.{Disa, Diff}
-use Rattle.layout.specs.declared.Outcome.{Outcome}
-use Rattle.layout.specs.declared.Outcome.TheVariants as outcome
 use Rattle.layout.specs.declared.Refusal.{Refusal}
 use Rattle.layout.specs.declared.Refusal.TheVariants.{Length, Format, SignerKind}
-use Rattle.layout.specs.Refusals.{Said, accepts, refuses}
 use Rattle.layout.specs.Headers.{header_bytes, kind_in}
 use Rattle.limits.specs.Limits.{length_allowed}
 use Rattle.signing.specs.declared.Signer.{Signer}
-use Rattle.signing.specs.declared.Built.{Built}
-use Rattle.signing.specs.declared.Built.TheVariants as built
 use Rattle.signing.specs.Blocks.{signing_block, kind_of}
 
 -- what a signer is answered: its block, or a refusal
@@ -46,18 +41,14 @@ signed image signer = cond (length_allowed (length image)) (signed_header (heade
 -- ---- what the calls leave
 
 -- whether there is a block
-abbrev pub outcome_of : Answer → Outcome
-outcome_of (Signs block) = outcome.Accepted
-outcome_of (Refused r) = outcome.Refused r
+abbrev pub outcome_of : Answer → Result (Unit {0}) Refusal
+outcome_of (Signs block) = Ok tt
+outcome_of (Refused r) = Err r
 
 -- the block's length, or the refusal
-abbrev pub built_as : Answer → Built
-built_as (Signs block) = built.Bytes (length block)
-built_as (Refused r) = built.Refused r
-
-abbrev pub built_says : Built → Said
-built_says (built.Bytes n) = accepts n
-built_says (built.Refused r) = refuses r
+abbrev pub built_as : Answer → Result ℕ Refusal
+built_as (Signs block) = Ok (length block)
+built_as (Refused r) = Err r
 
 -- the longest block, that of extdata: as many bytes are lent
 abbrev pub longest_block : ℕ

@@ -3,11 +3,12 @@ ghost use Rattle.std.specs.Prelude.{◌≡◌, ◌++◌, ◌+◌, ◌-◌, ◌�
 ghost use Rattle.std.proofs.lemmas.List.Edits.{sets};
 ghost use Rattle.number.specs.Fields.{field_bytes};
 ghost use Rattle.sha256.specs.Sha256.{sha256};
+ghost use Rattle.signing.specs.Rules.{somes};
 ghost use Rattle.signing.specs.Placing.{Placing};
 ghost use Rattle.signing.specs.Blocks.{laid_out, inner_block, tail_of, signing_block};
 
 use super::shapes::shape_of;
-use super::{Block, Field, Signer};
+use super::{Field, Shape, Signer};
 use number::runs::copy_into;
 use sha256::digest;
 
@@ -17,27 +18,24 @@ pub fn put_field(block: &mut [u8], at: usize, size: u64, value: u64)
     ensures { block.new ≡ sets block.old at (field_bytes size value) }
 {
     let mut rest = value;
-    let mut k = 0;
-    while k < size {
-        let place = at + k as usize;
-        block[place] = (rest % 0x100) as u8;
-        rest = rest / 0x100;
-        k += 1;
+    // By index: a blank image is stored to here, and tests/stores knows each function that does.
+    for k in 0..size as usize {
+        block[at + k] = (rest % 0x100) as u8;
+        rest /= 0x100;
     }
 }
 
 // Stores fields one after the other from a place on, and says where they end.
-fn put_fields(block: &mut [u8], at: usize, fields: [Field; 4]) -> usize
-    requires { at + length (laid_out fields) ≤ length block.old }
-    ensures { (block.new ≡ sets block.old at (laid_out fields)) × (result ≡ at + length (laid_out fields)) }
+fn put_fields(block: &mut [u8], at: usize, fields: &[Option<Field>]) -> usize
+    requires { at + length (laid_out (somes fields.now)) ≤ length block.old }
+    ensures { (block.new ≡ sets block.old at (laid_out (somes fields.now))) × (result ≡ at + length (laid_out (somes fields.now))) }
 {
     let mut end = at;
-    let mut k = 0;
-    while k < 4 {
-        let field = fields[k];
-        put_field(block, end, field.size, field.value);
-        end += field.size as usize;
-        k += 1;
+    for slot in fields {
+        if let Some(field) = *slot {
+            put_field(block, end, field.size, field.value);
+            end += field.size as usize;
+        }
     }
     end
 }
@@ -66,31 +64,28 @@ fn put_tail(block: &mut [u8], at: usize, hashed: bool, header: &[u8; 256]) -> us
     at + 256
 }
 
-// The block that a signer signs of a header, with zeros after it.
-pub fn build(signer: Signer, header: &[u8; 256]) -> Block
-    ensures { (result.bytes ≡ signing_block signer header.now ++ replicate (284 - length (signing_block signer header.now)) 0) × (result.length ≡ length (signing_block signer header.now)) × (result.length ≤ 284) }
+// Stores the block that a signer signs of a header, with zeros after it, and says how long it is.
+pub fn build(signer: Signer, header: &[u8; 256], block: &mut [u8; 284]) -> usize
+    ensures { (block.new ≡ signing_block signer header.now ++ replicate (284 - length (signing_block signer header.now)) 0) × (result ≡ length (signing_block signer header.now)) × (result ≤ 284) }
 {
-    let shape = shape_of(signer);
-    let letters = shape.letters;
-    let fields = shape.fields;
-    let mut bytes = [0u8; 284];
-    copy_into(&mut bytes, 0, &letters);
-    let at = put_fields(&mut bytes, 8, fields);
-    let end = put_tail(&mut bytes, at, shape.hashed, header);
-    Block {
-        bytes,
-        length: end as u64,
-    }
+    let Shape {
+        letters,
+        fields,
+        hashed,
+    } = shape_of(signer);
+    *block = [0u8; 284];
+    copy_into(block, 0, &letters);
+    let at = put_fields(block, 8, &fields);
+    put_tail(block, at, hashed, header)
 }
 
 // Its SHA-256, which is what is signed.
 pub fn block_digest(signer: Signer, header: &[u8; 256]) -> [u8; 32]
     ensures { result ≡ sha256 (signing_block signer header.now) }
 {
-    let built = build(signer, header);
-    let bytes = built.bytes;
-    let length = built.length as usize;
-    digest(&bytes[..length])
+    let mut block = [0u8; 284];
+    let length = build(signer, header, &mut block);
+    digest(&block[..length])
 }
 
 // The placing of fields is one law for all blocks: the check asks for it by its statement.

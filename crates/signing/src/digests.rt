@@ -1,24 +1,10 @@
 // A running digest that its holder lends. Any value of the state is a value, also one that no call made: the contracts say what comes of it.
 ghost use Rattle.std.specs.Prelude.{◌≡◌};
 ghost use Rattle.sha256.specs.Running.{state_of, fresh};
-ghost use Rattle.signing.specs.Digests.{AnyCutting, Feeds, Finishes};
+ghost use Rattle.signing.specs.Digests.{AnyCutting, Feeds, FeedsInPlace, Finishes};
 
-use layout::{Outcome, Refusal};
+use layout::Refusal;
 use sha256::running::{Running, fits, update};
-
-// What a feeding leaves.
-#[derive(Clone, Copy)]
-pub struct Fed {
-    pub outcome: Outcome,
-    pub running: Running,
-}
-
-// The digest of what was fed.
-#[derive(Clone, Copy)]
-pub struct Finished {
-    pub outcome: Outcome,
-    pub digest: [u8; 32],
-}
 
 // A digest that was fed nothing.
 pub fn start() -> Running
@@ -27,50 +13,35 @@ pub fn start() -> Running
     sha256::running::start()
 }
 
-// The digest with a piece more, or 22 and the digest as it was.
-pub fn advance(running: Running, piece: &[u8]) -> Fed
+// The digest with a piece more, or 22.
+pub fn advance(running: Running, piece: &[u8]) -> Result<Running, Refusal>
     ensures { Feeds running piece.now result }
 {
-    if fits(running.total, piece.len()) {
-        let next = update(running, piece);
-        Fed {
-            outcome: Outcome::Accepted,
-            running: next,
-        }
-    } else {
-        Fed {
-            outcome: Outcome::Refused(Refusal::DigestTooLong),
-            running,
-        }
+    if !fits(running.total, piece.len()) {
+        return Err(Refusal::DigestTooLong);
     }
+    let next = update(running, piece);
+    Ok(next)
 }
 
-// The same in place.
-pub fn feed(digest: &mut Running, piece: &[u8]) -> Outcome
-    ensures { Feeds digest.old piece.now (record { outcome = result; running = digest.new }) }
+// The same in place: a refused piece leaves the digest as it was.
+pub fn feed(digest: &mut Running, piece: &[u8]) -> Result<(), Refusal>
+    ensures { FeedsInPlace digest.old piece.now result digest.new }
 {
     let before = *digest;
-    let after = advance(before, piece);
-    *digest = after.running;
-    after.outcome
+    *digest = advance(before, piece)?;
+    Ok(())
 }
 
 // The digest of what was fed, or 22. It takes a copy: what is lent may be fed further.
-pub fn finish(running: Running) -> Finished
+pub fn finish(running: Running) -> Result<[u8; 32], Refusal>
     ensures { Finishes running result }
 {
-    if fits(running.total, 0) {
-        let digest = sha256::running::finish(running);
-        Finished {
-            outcome: Outcome::Accepted,
-            digest,
-        }
-    } else {
-        Finished {
-            outcome: Outcome::Refused(Refusal::DigestTooLong),
-            digest: [0u8; 32],
-        }
+    if !fits(running.total, 0) {
+        return Err(Refusal::DigestTooLong);
     }
+    let digest = sha256::running::finish(running);
+    Ok(digest)
 }
 
 // From a fresh start any cutting gives the digest of the whole: the check asks for it by its statement.

@@ -1,22 +1,20 @@
 // The blocks whose SHA-256 is signed (document 000, "AES CMAC"), and a digest that its holder lends and that is brought forward in place.
 #![tactic(auto)]
 
-use layout::Refusal;
-
 pub mod answers;
 pub mod blocks;
 pub mod digests;
 pub mod shapes;
 
 // Which file of an extdata image is signed: Quota.dat, or a device file by the ID in its name and the ID in its folder's name.
-#[derive(Clone, Copy)]
+#[derive(Clone, Copy, PartialEq, Eq, Debug)]
 pub enum ExtdataFile {
     Quota,
     Device(u32, u32),
 }
 
 // What an image is signed as: one variant for each type of block, with its fields.
-#[derive(Clone, Copy)]
+#[derive(Clone, Copy, PartialEq, Eq, Debug)]
 pub enum Signer {
     // CTR-NOR0: a game card's save.
     Card,
@@ -31,31 +29,17 @@ pub enum Signer {
 }
 
 // A field of a block: how many bytes it has, and its number.
-#[derive(Clone, Copy)]
+#[derive(Clone, Copy, PartialEq, Eq, Debug)]
 pub struct Field {
     pub size: u64,
     pub value: u64,
 }
 
-// What a type's block is made of: its eight letters, its fields (of size 0 where there are fewer than four), and whether its tail is the hash
-// of the inner block, or the header itself.
-#[derive(Clone, Copy)]
+// What a type's block is made of: its eight letters, its fields, of which there are up to four, and whether its tail is the hash of the inner
+// block, or the header itself.
+#[derive(Clone, Copy, PartialEq, Eq, Debug)]
 pub struct Shape {
     pub letters: [u8; 8],
-    pub fields: [Field; 4],
+    pub fields: [Option<Field>; 4],
     pub hashed: bool,
-}
-
-// A block at the front of the bytes, which are zero after it.
-#[derive(Clone, Copy)]
-pub struct Block {
-    pub bytes: [u8; 284],
-    pub length: u64,
-}
-
-// How long the block is that was built, or why none was.
-#[derive(Clone, Copy)]
-pub enum Built {
-    Bytes(u64),
-    Refused(Refusal),
 }

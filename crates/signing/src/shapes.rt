@@ -6,9 +6,6 @@ ghost use Rattle.signing.specs.Rules.{ShapeOf};
 use super::{ExtdataFile, Field, Shape, Signer};
 use layout::Kind;
 
-// No further field.
-const NONE: Field = Field { size: 0, value: 0 };
-
 // CTR-EXT0: after the extdata ID come 0 and zeros for Quota.dat, else 1 and the file's two IDs.
 fn extdata_shape(id: u64, file: ExtdataFile) -> Shape
     ensures { ShapeOf (Signer.Extdata id file) result }
@@ -20,7 +17,7 @@ fn extdata_shape(id: u64, file: ExtdataFile) -> Shape
             let zero = Field { size: 4, value: 0 };
             Shape {
                 letters,
-                fields: [extdata, zero, zero, zero],
+                fields: [Some(extdata), Some(zero), Some(zero), Some(zero)],
                 hashed: false,
             }
         }
@@ -32,7 +29,7 @@ fn extdata_shape(id: u64, file: ExtdataFile) -> Shape
             let above = Field { size: 4, value: f };
             Shape {
                 letters,
-                fields: [extdata, one, own, above],
+                fields: [Some(extdata), Some(one), Some(own), Some(above)],
                 hashed: false,
             }
         }
@@ -46,14 +43,14 @@ pub fn shape_of(signer: Signer) -> Shape
     match signer {
         Signer::Card => Shape {
             letters: *b"CTR-NOR0",
-            fields: [NONE, NONE, NONE, NONE],
+            fields: [None; 4],
             hashed: true,
         },
         Signer::Title(id) => {
             let title = Field { size: 8, value: id };
             Shape {
                 letters: *b"CTR-SIGN",
-                fields: [title, NONE, NONE, NONE],
+                fields: [Some(title), None, None, None],
                 hashed: true,
             }
         }
@@ -62,7 +59,7 @@ pub fn shape_of(signer: Signer) -> Shape
             let save = Field { size: 8, value: n };
             Shape {
                 letters: *b"CTR-SYS0",
-                fields: [save, NONE, NONE, NONE],
+                fields: [Some(save), None, None, None],
                 hashed: false,
             }
         }
@@ -72,7 +69,7 @@ pub fn shape_of(signer: Signer) -> Shape
             let database = Field { size: 4, value: n };
             Shape {
                 letters: *b"CTR-9DB0",
-                fields: [database, NONE, NONE, NONE],
+                fields: [Some(database), None, None, None],
                 hashed: false,
             }
         }
@@ -84,10 +81,7 @@ pub fn kind_of(signer: Signer) -> Kind
     ensures { result ≡ kind_of signer }
 {
     match signer {
-        Signer::Card => Kind::Disa,
-        Signer::Title(_) => Kind::Disa,
-        Signer::System(_) => Kind::Disa,
-        Signer::Extdata(_, _) => Kind::Diff,
-        Signer::Database(_) => Kind::Diff,
+        Signer::Card | Signer::Title(_) | Signer::System(_) => Kind::Disa,
+        Signer::Extdata(_, _) | Signer::Database(_) => Kind::Diff,
     }
 }

@@ -1,4 +1,5 @@
 -- What a read answers, by cases. Assumes nothing.
+use Rattle.std.specs.Prelude.{Result, Ok, Err}
 use Prim.Native.Nat.{ℕ, zero, suc, ◌+◌, ◌-◌, ◌≤◌, ◌<◌}
 use mathlib.Core.Bool.{Bool, true, false}
 use mathlib.Core.List.{List}
@@ -17,10 +18,7 @@ use Rattle.layout.specs.declared.Refusal.TheVariants.{OutOfRange, Unverified}
 use Rattle.ivfc.specs.declared.View.{View}
 use Rattle.ivfc.specs.Views.{level_of, content_of, verified}
 use Rattle.ivfc.specs.Verified.{first_not}
-use Rattle.layout.specs.declared.Outcome.{Outcome}
-use Rattle.layout.specs.declared.Outcome.TheVariants as outcome
-use Rattle.steps.specs.declared.Verdict.TheVariants as verdict
-use Rattle.steps.specs.Reading.{touched, refuse_lowest, refuse_outside, read_outcome, Read, read_from, said, verdict_on}
+use Rattle.steps.specs.Reading.{touched, refuse_lowest, refuse_outside, read_outcome, Read, read_from, verdict_on}
 
 -- a range of some bytes touches the blocks from that of its first byte to that of its last
 module _ (l : Level) (place n : ℕ) (some : 0 < n) where
@@ -38,25 +36,25 @@ module _ (l : Level) (place n : ℕ) (some : 0 < n) where
 -- the lowest touched block at which P does not hold, where a search found one, and where it found none
 module _ (P : ℕ → Bool) (view : View) (place n lowest : ℕ) (some : 0 < n)
     (found : lowest ≡ first_not P (block_of view.level4 place) (suc (last_block view.level4 place n) - block_of view.level4 place)) where
-  pub lowest_refused : lowest ≤ last_block view.level4 place n → refuse_lowest P view place n ≡ outcome.Refused (Unverified lowest)
+  pub lowest_refused : lowest ≤ last_block view.level4 place n → refuse_lowest P view place n ≡ Err (Unverified lowest)
   unfolding refuse_lowest
   lowest_refused h =
       rw (touched_ends view.level4 place n some, touched_some view.level4 place n some, ← found, lt-ltb lowest (suc (last_block view.level4 place n)) (omega arith))
 
-  pub none_refused : last_block view.level4 place n < lowest → refuse_lowest P view place n ≡ outcome.Accepted
+  pub none_refused : last_block view.level4 place n < lowest → refuse_lowest P view place n ≡ Ok tt
   unfolding refuse_lowest
   none_refused h =
       rw (touched_ends view.level4 place n some, touched_some view.level4 place n some, ← found, le-ltb lowest (suc (last_block view.level4 place n)) (omega arith))
 
 -- a range of no bytes touches none
-pub nothing_touched : (P : ℕ → Bool) (view : View) (place n : ℕ) → n ≡ 0 → refuse_lowest P view place n ≡ outcome.Accepted
+pub nothing_touched : (P : ℕ → Bool) (view : View) (place n : ℕ) → n ≡ 0 → refuse_lowest P view place n ≡ Ok tt
 unfolding refuse_lowest touched first_not
 nothing_touched P view place n e =
     rw (eq-eqb n 0 e, le-ltb (block_of view.level4 place) (block_of view.level4 place + 0) (omega arith))
 
 -- 9
-module _ (view : View) (place n : ℕ) (next : Outcome) where
-  pub outside_refused : leb (place + n) view.level4.size ≡ false → refuse_outside view place n next ≡ outcome.Refused OutOfRange
+module _ (view : View) (place n : ℕ) (next : Result (Unit {0}) Refusal) where
+  pub outside_refused : leb (place + n) view.level4.size ≡ false → refuse_outside view place n next ≡ Err OutOfRange
   unfolding refuse_outside
   outside_refused e = rw e
 
@@ -70,21 +68,21 @@ unfolding last_block
 last_exists view place n some h = block_exists view.level4 (place + n - 1) (omega arith)
 
 -- an accepted read lies in level 4
-pub accepted_inside : (view : View) (image : List ℕ) (place n : ℕ) → read_outcome view image place n ≡ outcome.Accepted → place + n ≤ view.level4.size
+pub accepted_inside : (view : View) (image : List ℕ) (place n : ℕ) → read_outcome view image place n ≡ Ok tt → place + n ≤ view.level4.size
 unfolding read_outcome
 accepted_inside view image place n e = go (leb (place + n) view.level4.size) refl
   where
     go : (t : Bool) → leb (place + n) view.level4.size ≡ t → place + n ≤ view.level4.size
     go true p = leb-true (place + n) view.level4.size p
     go false p =
-        let q : outcome.Refused OutOfRange ≡ outcome.Accepted = sym (outside_refused view place n (refuse_lowest (verified view image 4) view place n) p) ∙ e in
+        let q : ◌≡◌ {A = Result (Unit {0}) Refusal} (Err OutOfRange) (Ok tt) = sym (outside_refused view place n (refuse_lowest (verified view image 4) view place n) p) ∙ e in
         let z : ◌≡◌ {A = ℕ} 0 1 = cc in
         absurd (omega arith)
 
 -- ---- the same as the code finds it
 
 -- what a read leaves, as its two parts
-abbrev pub Leaves : Read → Outcome → (buffer : List ℕ) → Type 0
+abbrev pub Leaves : Read → Result (Unit {0}) Refusal → (buffer : List ℕ) → Type 0
 Leaves read answer buffer = (answer ≡ read.outcome) × (buffer ≡ read.buffer)
 
 module _ (view : View) (image : List ℕ) (place n : ℕ) where
@@ -92,12 +90,12 @@ module _ (view : View) (image : List ℕ) (place n : ℕ) where
   unfolding inside
   in_level e = leb-true (place + n) view.level4.size e
 
-  pub read_outside : inside place n view.level4.size ≡ false → outcome.Refused OutOfRange ≡ read_outcome view image place n
+  pub read_outside : inside place n view.level4.size ≡ false → Err OutOfRange ≡ read_outcome view image place n
   unfolding read_outcome inside
   read_outside e = sym (outside_refused view place n (refuse_lowest (verified view image 4) view place n) e)
 
   module _ (i : inside place n view.level4.size ≡ true) where
-    pub read_nothing : n ≡ 0 → outcome.Accepted ≡ read_outcome view image place n
+    pub read_nothing : n ≡ 0 → (Ok tt) ≡ read_outcome view image place n
     unfolding read_outcome inside
     read_nothing e =
         sym (inside_passes view place n (refuse_lowest (verified view image 4) view place n) i
@@ -126,35 +124,35 @@ module _ (view : View) (image : List ℕ) (place n : ℕ) where
         found_is : lowest ≡ first_not (verified view image 4) (block_of view.level4 place) (suc (last_block view.level4 place n) - block_of view.level4 place)
         found_is = found ∙ rw (f, last_is)
 
-        pub read_lowest : lowest ≤ last → outcome.Refused (Unverified lowest) ≡ read_outcome view image place n
+        pub read_lowest : lowest ≤ last → Err (Unverified lowest) ≡ read_outcome view image place n
         unfolding read_outcome inside
         read_lowest h =
             sym (inside_passes view place n (refuse_lowest (verified view image 4) view place n) i
             ∙ lowest_refused (verified view image 4) view place n lowest positive found_is (omega (arith, last_is)))
 
-        pub read_all : last < lowest → outcome.Accepted ≡ read_outcome view image place n
+        pub read_all : last < lowest → (Ok tt) ≡ read_outcome view image place n
         unfolding read_outcome inside
         read_all h =
             sym (inside_passes view place n (refuse_lowest (verified view image 4) view place n) i
             ∙ none_refused (verified view image 4) view place n lowest positive found_is (omega (arith, last_is)))
 
-module _ (view : View) (image : List ℕ) (place : ℕ) (buffer : List ℕ) (answer : Outcome) (a : answer ≡ read_outcome view image place (length buffer)) where
-  pub view_refused : (r : Refusal) → answer ≡ outcome.Refused r → Leaves (read_from view image place buffer) answer buffer
+module _ (view : View) (image : List ℕ) (place : ℕ) (buffer : List ℕ) (answer : Result (Unit {0}) Refusal) (a : answer ≡ read_outcome view image place (length buffer)) where
+  pub view_refused : (r : Refusal) → answer ≡ Err r → Leaves (read_from view image place buffer) answer buffer
   unfolding read_from
   view_refused r e = (a, rw (sym a ∙ e))
 
-  pub view_fits : answer ≡ outcome.Accepted → place + length buffer ≤ (level_of view 4).size
+  pub view_fits : answer ≡ Ok tt → place + length buffer ≤ (level_of view 4).size
   unfolding level_of
   view_fits e = accepted_inside view image place (length buffer) (sym a ∙ e)
 
-  pub view_accepted : (after : List ℕ) → answer ≡ outcome.Accepted → after ≡ bytes (content_of view image 4) place (length buffer)
-      → Leaves (read_from view image place buffer) outcome.Accepted after
+  pub view_accepted : (after : List ℕ) → answer ≡ Ok tt → after ≡ bytes (content_of view image 4) place (length buffer)
+      → Leaves (read_from view image place buffer) (Ok tt) after
   unfolding read_from
   view_accepted after e h = (sym e ∙ a, h ∙ rw (sym a ∙ e))
 
 -- is a block verified
 module _ (view : View) (image : List ℕ) (b count : ℕ) (n : count ≡ blocks view.level4) where
-  pub block_missing : count ≤ b → verdict.Refused OutOfRange ≡ verdict_on view image b
+  pub block_missing : count ≤ b → Err OutOfRange ≡ verdict_on view image b
   unfolding verdict_on
   block_missing h = rw (le-ltb b (blocks view.level4) (omega arith))
 
@@ -162,6 +160,6 @@ module _ (view : View) (image : List ℕ) (b count : ℕ) (n : count ≡ blocks 
   unfolding level_of
   block_there h = omega arith
 
-  pub block_said : b < count → (t : Bool) → verified view image 4 b ≡ t → said t ≡ verdict_on view image b
+  pub block_said : b < count → (t : Bool) → t ≡ verified view image 4 b → Ok t ≡ verdict_on view image b
   unfolding verdict_on
   block_said h t e = rw (lt-ltb b (blocks view.level4) (omega arith), e)

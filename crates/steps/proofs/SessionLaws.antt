@@ -1,4 +1,5 @@
 -- The calls on a session, by the checks that lead to each answer. Assumes nothing.
+use Rattle.std.specs.Prelude.{Result, Ok, Err}
 use Prim.Native.Nat.{ℕ, ◌<◌}
 use mathlib.Core.Bool.{Bool, true, false, cond, true≢false}
 use mathlib.Core.List.{List}
@@ -6,8 +7,6 @@ use mathlib.Core.Path.{◌≡◌, refl, sym, ap, ◌∙◌, subst}
 use lib.Dec.{ltb}
 use lib.ListN.{length}
 use Rattle.layout.specs.declared.Container.{Container}
-use Rattle.layout.specs.declared.Opened.{Opened}
-use Rattle.layout.specs.declared.Opened.TheVariants as opening
 use Rattle.layout.specs.declared.Refusal.{Refusal}
 use Rattle.layout.specs.declared.Refusal.TheVariants.{NoPartition, SessionState}
 use Rattle.layout.specs.Headers.{header_bytes}
@@ -22,8 +21,6 @@ use Rattle.update.specs.Staged.{written_to, holds_zero}
 use Rattle.update.specs.Rules.{WriteRules}
 use Rattle.views.specs.Places.{partitions, staged_view, space_of}
 use Rattle.views.proofs.PlaceLaws.{staged_rules}
-use Rattle.layout.specs.declared.Outcome.{Outcome}
-use Rattle.layout.specs.declared.Outcome.TheVariants as outcome
 use Rattle.steps.specs.declared.Ending.TheVariants as ending
 use Rattle.steps.specs.declared.Session.{Session}
 use Rattle.steps.specs.declared.Step.{Step}
@@ -33,7 +30,6 @@ use Rattle.signing.specs.Calls.{Answer, signed, outcome_of, signed_header}
 use Rattle.signing.proofs.AnswerLaws.{refused_is, accepted_is, accepted_header}
 use Rattle.commits.specs.Committing.{stored_header, stored_signed, committed_image, committed_signed}
 use Rattle.steps.specs.Calls.{while_idle, goes_on, After, Stepped, unchanged, done, begin_on, begin, finished, leaving, write_to, write_on, commit_on, commit_by, revert_on, revert_by, abandon, Abandoned}
-use Rattle.steps.specs.Rules.{refusal_of}
 use Rattle.steps.proofs.WriteLaws.{write_rules}
 
 -- which arm of a test is taken
@@ -76,29 +72,29 @@ stepped_finished true step image left session after e (o, s) l = record {
 }
 stepped_finished false step image left session after e (o, s) l = stepped_done step image left session after e o s l
 
-module _ (image : List ℕ) (answer : Opened) (a : answer ≡ opened image) (session : Session) where
+module _ (image : List ℕ) (answer : Result Container Refusal) (a : answer ≡ opened image) (session : Session) where
   -- ---- an image that does not open
 
-  module _ (r : Refusal) (e : answer ≡ opening.Refused r) (refusal : Refusal) (h : refusal ≡ refusal_of answer) (step : Step) (s : Refuses step session refusal) where
-    is : opened image ≡ opening.Refused refusal
-    is = sym a ∙ e ∙ ap opening.Refused (sym (h ∙ ap refusal_of e))
+  module _ (r : Refusal) (e : answer ≡ Err r) (step : Step) (s : Refuses step session r) where
+    is : opened image ≡ Err r
+    is = sym a ∙ e
 
     pub begin_unopened : Stepped step image (begin image session)
     unfolding begin
-    begin_unopened = stepped_refused step image session refusal _ (ap (λ (o : Opened). goes_on image session (begin_on image) (while_idle session o)) is) s
+    begin_unopened = stepped_refused step image session r _ (ap (λ (o : Result Container Refusal). goes_on image session (begin_on image) (while_idle session o)) is) s
 
   -- ---- one that does
 
-  module _ (c : Container) (e : answer ≡ opening.Valid c) where
-    pub valid : opened image ≡ opening.Valid c
+  module _ (c : Container) (e : answer ≡ Ok c) where
+    pub valid : opened image ≡ Ok c
     valid = sym a ∙ e
 
     pub guaranteed : Guarantees image c
     guaranteed = guarantees image c valid
 
-    begun_is : begin image session ≡ goes_on image session (begin_on image) (cond session.begun (opening.Refused SessionState) (opening.Valid c))
+    begun_is : begin image session ≡ goes_on image session (begin_on image) (cond session.begun (Err SessionState) (Ok c))
     unfolding begin
-    begun_is = ap (λ (o : Opened). goes_on image session (begin_on image) (while_idle session o)) valid
+    begun_is = ap (λ (o : Result Container Refusal). goes_on image session (begin_on image) (while_idle session o)) valid
 
     pub begin_busy : session.begun ≡ true → (step : Step) → Refuses step session SessionState → Stepped step image (begin image session)
     begin_busy b step s = stepped_refused step image session SessionState _ (begun_is ∙ ap (goes_on image session (begin_on image)) (yes_of session.begun _ _ b)) s
@@ -132,13 +128,13 @@ commit_done image c former later left f h l =
     stepped_done _ (committed_image c image) left (remembering (header_bytes image) (header_bytes (committed_image c image))) _ refl refl
     (remembers image (committed_image c image) former later left f h l) l
 
-module _ (image : List ℕ) (c : Container) (session : Session) (key : List ℕ) (signer : Signer) (answer : Outcome) (a : answer ≡ outcome_of (signed image signer)) where
-  pub signer_unfit : (r : Refusal) → answer ≡ outcome.Refused r → (step : Step) → Refuses step session r
+module _ (image : List ℕ) (c : Container) (session : Session) (key : List ℕ) (signer : Signer) (answer : Result (Unit {0}) Refusal) (a : answer ≡ outcome_of (signed image signer)) where
+  pub signer_unfit : (r : Refusal) → answer ≡ Err r → (step : Step) → Refuses step session r
       → Stepped step image (commit_by image session key signer (signed image signer) c)
   signer_unfit r e step s =
       stepped_refused step image session r _ (ap (λ (x : Answer). commit_by image session key signer x c) (refused_is (signed image signer) r (sym a ∙ e))) s
 
-  pub signed_done : answer ≡ outcome.Accepted → (former later left : List ℕ) → former ≡ header_bytes image → later ≡ header_bytes left → left ≡ committed_signed c image key signer
+  pub signed_done : answer ≡ Ok tt → (former later left : List ℕ) → former ≡ header_bytes image → later ≡ header_bytes left → left ≡ committed_signed c image key signer
       → Stepped (record { outcome = ending.Accepted; session = remembering former later }) left (commit_by image session key signer (signed image signer) c)
   signed_done e former later left f h l =
       stepped_done _ (committed_signed c image key signer) left (remembering (header_bytes image) (header_bytes (committed_signed c image key signer))) _
@@ -151,18 +147,18 @@ pub revert_done : (image : List ℕ) (c : Container) (session next : Session) (f
     → Stepped (record { outcome = ending.Accepted; session = next }) left (revert_on image session c)
 revert_done image c session next former left f i l = stepped_done _ (stored_header image session.header) left idle _ refl refl i (l ∙ ap (stored_header image) f)
 
-module _ (image : List ℕ) (c : Container) (session : Session) (key : List ℕ) (signer : Signer) (former : List ℕ) (f : former ≡ session.header) (answer : Outcome)
+module _ (image : List ℕ) (c : Container) (session : Session) (key : List ℕ) (signer : Signer) (former : List ℕ) (f : former ≡ session.header) (answer : Result (Unit {0}) Refusal)
     (a : answer ≡ outcome_of (signed_header former signer)) where
   judged : answer ≡ outcome_of (signed_header session.header signer)
   judged = a ∙ ap (λ (x : List ℕ). outcome_of (signed_header x signer)) f
 
-  pub reverter_unfit : (r : Refusal) → answer ≡ outcome.Refused r → (step : Step) → Refuses step session r
+  pub reverter_unfit : (r : Refusal) → answer ≡ Err r → (step : Step) → Refuses step session r
       → Stepped step image (revert_by image session key signer (signed_header session.header signer) c)
   reverter_unfit r e step s =
       stepped_refused step image session r _
       (ap (λ (x : Answer). revert_by image session key signer x c) (refused_is (signed_header session.header signer) r (sym judged ∙ e))) s
 
-  pub revert_signed_lem : answer ≡ outcome.Accepted → (next : Session) (left : List ℕ) → next ≡ idle → left ≡ stored_signed image key signer former
+  pub revert_signed_lem : answer ≡ Ok tt → (next : Session) (left : List ℕ) → next ≡ idle → left ≡ stored_signed image key signer former
       → Stepped (record { outcome = ending.Accepted; session = next }) left (revert_by image session key signer (signed_header session.header signer) c)
   revert_signed_lem e next left i l =
       stepped_done _ (stored_signed image key signer session.header) left idle _
@@ -171,12 +167,12 @@ module _ (image : List ℕ) (c : Container) (session : Session) (key : List ℕ)
 
 -- ---- a write to a partition that is there
 
-module _ (image : List ℕ) (c : Container) (o : opened image ≡ opening.Valid c) (session : Session) (q : ℕ) (k : q < partitions c) (place : ℕ) (bytes : List ℕ)
+module _ (image : List ℕ) (c : Container) (o : opened image ≡ Ok c) (session : Session) (q : ℕ) (k : q < partitions c) (place : ℕ) (bytes : List ℕ)
     (view : View) (v : view ≡ staged_view c q) where
   pub view_keeps : ViewRules view (length image)
   view_keeps = rw v (staged_rules image c (guarantees image c o) q k)
 
-  module _ (answer : Outcome) (a : answer ≡ write_outcome view image place (length bytes)) where
+  module _ (answer : Result (Unit {0}) Refusal) (a : answer ≡ write_outcome view image place (length bytes)) where
     outcome_is : answer ≡ write_outcome (staged_view c q) image place (length bytes)
     outcome_is = a ∙ ap (λ (x : View). write_outcome x image place (length bytes)) v
 
@@ -185,14 +181,14 @@ module _ (image : List ℕ) (c : Container) (o : opened image ≡ opening.Valid 
 
     whole_is : write_to c image session q place bytes ≡ leaving answer image session (finished (staged_view c q) place bytes session after)
     whole_is =
-        ap (λ (o : Outcome). leaving o image session (finished (staged_view c q) place bytes session after)) (sym outcome_is)
+        ap (λ (o : Result (Unit {0}) Refusal). leaving o image session (finished (staged_view c q) place bytes session after)) (sym outcome_is)
 
-    pub write_refused : (r : Refusal) → answer ≡ outcome.Refused r → (step : Step) → Refuses step session r → Stepped step image (write_to c image session q place bytes)
+    pub write_refused : (r : Refusal) → answer ≡ Err r → (step : Step) → Refuses step session r → Stepped step image (write_to c image session q place bytes)
     write_refused r f step s =
         stepped_refused step image session r _
-        (whole_is ∙ ap (λ (o : Outcome). leaving o image session (finished (staged_view c q) place bytes session after)) f) s
+        (whole_is ∙ ap (λ (o : Result (Unit {0}) Refusal). leaving o image session (finished (staged_view c q) place bytes session after)) f) s
 
-    module _ (f : answer ≡ outcome.Accepted) where
+    module _ (f : answer ≡ Ok tt) where
       pub write_asks : (space : Space) → space ≡ space_of c → WriteRules space view image place bytes
       write_asks space s = rw (s, v) (write_rules image c o q k place bytes (sym outcome_is ∙ f))
 
@@ -205,7 +201,7 @@ module _ (image : List ℕ) (c : Container) (o : opened image ≡ opening.Valid 
         zero_is = sym (z ∙ ap (λ (x : View). holds_zero x place bytes left) v ∙ ap (holds_zero (staged_view c q) place bytes) left_is)
 
         ended : write_to c image session q place bytes ≡ finished (staged_view c q) place bytes session after
-        ended = whole_is ∙ ap (λ (o : Outcome). leaving o image session (finished (staged_view c q) place bytes session after)) f
+        ended = whole_is ∙ ap (λ (o : Result (Unit {0}) Refusal). leaving o image session (finished (staged_view c q) place bytes session after)) f
 
         pub write_done : (step : Step) → (step.outcome ≡ cond zero ending.Dropped ending.Accepted) × (step.session ≡ cond zero idle session)
             → Stepped step left (write_to c image session q place bytes)

@@ -1,4 +1,5 @@
 -- The stores of begin, as the code makes them, are what begin leaves. Assumes nothing.
+use Rattle.std.specs.Prelude.{Ok, Some, None}
 use mathlib.Core.Path.{◌≡◌, refl, sym, ap, ◌∙◌, subst}
 use mathlib.Core.List.{List}
 use mathlib.Core.Bool.{true, false}
@@ -19,24 +20,23 @@ use Rattle.layout.specs.declared.Slot.{Slot}
 use Rattle.layout.specs.declared.Partition.{Partition}
 use Rattle.layout.specs.declared.Container.{Container}
 use Rattle.layout.specs.Tables.{active, inactive}
-use Rattle.layout.specs.declared.Opened.TheVariants.{Valid}
 use Rattle.layout.specs.Opening.{opened}
 use Rattle.layout.specs.Guarantees.{Guarantees}
 use Rattle.layout.proofs.GuaranteeLaws.{guarantees}
+use Rattle.dpfs.specs.declared.Tree.{Tree}
 use Rattle.dpfs.specs.declared.Space.{Space}
 use Rattle.dpfs.specs.Free.{Free}
-use Rattle.dpfs.specs.Rules.{Among}
 use Rattle.dpfs.specs.Staging.{begun}
 use Rattle.dpfs.proofs.SpaceLaws.{table_free, space_begun}
 use Rattle.stores.specs.Rules.{OwnSpace, CopyRules}
 use Rattle.stores.proofs.OwnLaws.{own_rules, own_kept}
 use Rattle.views.specs.Places.{partitions, slot_of, partition_of, space_of}
-use Rattle.views.proofs.PlaceLaws.{present, active_table, inactive_table, tables_apart_lem, first_there}
+use Rattle.views.proofs.PlaceLaws.{present, active_table, inactive_table, tables_apart_lem, first_there, of_second, none_second}
 use Rattle.views.proofs.OpenLaws.{free_opens}
 use Rattle.steps.specs.Sessions.{selector_place, selector_flipped, staged_table, table_begun, begun_image}
 use Rattle.steps.proofs.BeginLaws.{table_space}
 
-module _ (image : List ℕ) (c : Container) (o : opened image ≡ Valid c) where
+module _ (image : List ℕ) (c : Container) (o : opened image ≡ Ok c) where
   g : Guarantees image c
   g = guarantees image c o
 
@@ -66,13 +66,13 @@ module _ (image : List ℕ) (c : Container) (o : opened image ≡ Valid c) where
       orders (inr h) e f = inr h
 
   -- the image opens as before with the table copied, and with a selector stored
-  pub copied_opens : (after : List ℕ) → after ≡ copied image (active c.header).offset (inactive c.header).offset (inactive c.header).size → opened after ≡ Valid c
+  pub copied_opens : (after : List ℕ) → after ≡ copied image (active c.header).offset (inactive c.header).offset (inactive c.header).size → opened after ≡ Ok c
   copied_opens after e =
       free_opens image after c o
       (subst (Keeps (Free (space_of c) image) image) (sym e) (keeps_copied (Free (space_of c) image) image _ _ _ table_copy.free))
 
   pub flipped_opens : (q : ℕ) → q < partitions c → (value : ℕ) (after : List ℕ) → after ≡ set image ((inactive c.header).offset + selector_place (slot_of c q)) value
-      → opened after ≡ Valid c
+      → opened after ≡ Ok c
   flipped_opens q k value after e =
       free_opens image after c o (subst (Keeps (Free (space_of c) image) image) (sym e) (keeps_set (Free (space_of c) image) image _ value (selector_free q k)))
 
@@ -134,7 +134,7 @@ module _ (image : List ℕ) (c : Container) (o : opened image ≡ Valid c) where
 -- ---- as the functions cite them
 
 -- one selector: the values that the code has are those of the definitions
-module _ (image : List ℕ) (c : Container) (o : opened image ≡ Valid c) (q : ℕ) (k : q < partitions c) where
+module _ (image : List ℕ) (c : Container) (o : opened image ≡ Ok c) (q : ℕ) (k : q < partitions c) where
   module _ (to : Range) (slot : Slot) (t : to ≡ inactive c.header) (s : slot ≡ slot_of c q) where
     inside : (inactive c.header).offset + selector_place (slot_of c q) < length image
     inside = omega (arith, selector_inside image c o q k, (inactive_table image c (guarantees image c o)).inside)
@@ -157,7 +157,7 @@ module _ (image : List ℕ) (c : Container) (o : opened image ≡ Valid c) (q : 
   pub selector_bit : (partition : Partition) → partition ≡ partition_of c q → partition.difi.selector ≤ 1
   selector_bit partition e = rw e (present image c (guarantees image c o) q k).described.guarantees.selector
 
-pub copy_asks : (image : List ℕ) (c : Container) → opened image ≡ Valid c → (space : Space) → space ≡ space_of c → (from to : Range) → from ≡ active c.header → to ≡ inactive c.header
+pub copy_asks : (image : List ℕ) (c : Container) → opened image ≡ Ok c → (space : Space) → space ≡ space_of c → (from to : Range) → from ≡ active c.header → to ≡ inactive c.header
     → CopyRules space image from.offset to.offset to.size
 copy_asks image c o space e from to f t = rw (e, f, t) (table_copy image c o)
 
@@ -166,7 +166,7 @@ pub copy_done : (image after : List ℕ) (c : Container) (from to : Range) → f
 copy_done image after c from to f t e = rw (← f, ← t) e
 
 -- the trees of the space
-module _ (image : List ℕ) (c : Container) (o : opened image ≡ Valid c) (space : Space) (e : space ≡ space_of c) where
+module _ (image : List ℕ) (c : Container) (o : opened image ≡ Ok c) (space : Space) (e : space ≡ space_of c) where
   -- the space is the image's own with the table staged, and with the first half staged
   pub table_own : (table : List ℕ) → table ≡ table_begun c image → OwnSpace space table
   table_own table t = record {
@@ -180,15 +180,13 @@ module _ (image : List ℕ) (c : Container) (o : opened image ≡ Valid c) (spac
       let h = table_own table t in
       own_kept space table h first (subst (Keeps (Free space table) table) (sym f) (space_begun space space.a table (own_rules space table h) (inl refl)))
 
-  pub second_among : c.header.count ≡ 2 → Among space.b space
-  unfolding space_of
-  second_among two = rw e (inr (eq-eqb c.header.count 2 two, refl))
-
-  pub one_begun : (table after : List ℕ) → table ≡ table_begun c image → after ≡ begun space.a table → eqb (partitions c) 2 ≡ false → after ≡ begun_image c image
+  pub one_begun : (table after : List ℕ) → table ≡ table_begun c image → after ≡ begun space.a table → space.b ≡ None → after ≡ begun_image c image
   unfolding begun_image space_of
-  one_begun table after t a single = rw (single, ← t, a, e)
+  one_begun table after t a none = rw (none_second c (sym (ap (λ (s : Space). s.b) e) ∙ none), ← t, a, e)
 
-  pub two_begun : (table first after : List ℕ) → table ≡ table_begun c image → first ≡ begun space.a table → after ≡ begun space.b first
-      → eqb (partitions c) 2 ≡ true → after ≡ begun_image c image
+  pub two_begun : (table first after : List ℕ) → table ≡ table_begun c image → first ≡ begun space.a table → (b : Tree) → space.b ≡ Some b
+      → after ≡ begun b first → after ≡ begun_image c image
   unfolding begun_image space_of
-  two_begun table first after t f a both = rw (both, ← t, a, f, e)
+  two_begun table first after t a b is =
+      of_second c (λ (tree : Tree). after ≡ begun tree first → after ≡ begun_image c image) (λ two f. rw (eq-eqb (partitions c) 2 two, ← t, f, a, e)) b
+      (sym (ap (λ (s : Space). s.b) e) ∙ is)

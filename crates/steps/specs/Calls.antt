@@ -1,9 +1,7 @@
 -- The calls: what each answers and leaves, for any image, any session value and any numbers. The first check that fails decides the answer;
 -- a refusal leaves the image, the buffer and the session as they were; a write's 17 alone does not.
-use Rattle.std.specs.Prelude.{ℕ, ◌≡◌, cond, List, length, ltb}
+use Rattle.std.specs.Prelude.{ℕ, ◌≡◌, cond, List, length, ltb, Result, Ok, Err, Bool}
 use Rattle.layout.specs.declared.Container.{Container}
-use Rattle.layout.specs.declared.Opened.{Opened}
-use Rattle.layout.specs.declared.Opened.TheVariants as opening
 use Rattle.layout.specs.declared.Refusal.{Refusal}
 use Rattle.layout.specs.declared.Refusal.TheVariants.{NoPartition, SessionState, Stale, NothingToRevert}
 use Rattle.layout.specs.Refusals.{Answers}
@@ -12,12 +10,6 @@ use Rattle.layout.specs.Opening.{opened}
 use Rattle.ivfc.specs.declared.View.{View}
 use Rattle.update.specs.Staged.{written_to, holds_zero}
 use Rattle.views.specs.Places.{partitions, committed_view, staged_view}
-use Rattle.layout.specs.declared.Outcome.{Outcome}
-use Rattle.layout.specs.declared.Outcome.TheVariants as outcome
-use Rattle.steps.specs.declared.Verdict.{Verdict}
-use Rattle.steps.specs.declared.Verdict.TheVariants as verdict
-use Rattle.steps.specs.declared.Count.{Count}
-use Rattle.steps.specs.declared.Count.TheVariants as count
 use Rattle.steps.specs.declared.Ending.{Ending}
 use Rattle.steps.specs.declared.Ending.TheVariants as ending
 use Rattle.steps.specs.declared.Session.{Session}
@@ -32,37 +24,37 @@ use Rattle.commits.specs.Committing.{stored_header, stored_signed, committed_ima
 -- ---- what a call checks first, of what the image opens as: the container that it goes on with, or a refusal
 
 -- of a session that must be idle: 13
-abbrev pub while_idle : Session → Opened → Opened
-while_idle session (opening.Refused r) = opening.Refused r
-while_idle session (opening.Valid c) = cond session.begun (opening.Refused SessionState) (opening.Valid c)
+abbrev pub while_idle : Session → Result Container Refusal → Result Container Refusal
+while_idle session (Err r) = Err r
+while_idle session (Ok c) = cond session.begun (Err SessionState) (Ok c)
 
 -- of one that must be begun: 13, 14
-abbrev pub while_begun : List ℕ → Session → Opened → Opened
-while_begun image session (opening.Refused r) = opening.Refused r
-while_begun image session (opening.Valid c) =
-    cond session.begun (cond (current c image session) (opening.Valid c) (opening.Refused Stale)) (opening.Refused SessionState)
+abbrev pub while_begun : List ℕ → Session → Result Container Refusal → Result Container Refusal
+while_begun image session (Err r) = Err r
+while_begun image session (Ok c) =
+    cond session.begun (cond (current c image session) (Ok c) (Err Stale)) (Err SessionState)
 
-unfoldable pub entered : List ℕ → Session → Opened
+unfoldable pub entered : List ℕ → Session → Result Container Refusal
 entered image session = while_begun image session (opened image)
 
 -- of one that remembers a commit: 21
-abbrev pub while_revertible : List ℕ → Session → Opened → Opened
-while_revertible image session (opening.Refused r) = opening.Refused r
-while_revertible image session (opening.Valid c) =
-    cond (revertible image session.header session.later) (opening.Valid c) (opening.Refused NothingToRevert)
+abbrev pub while_revertible : List ℕ → Session → Result Container Refusal → Result Container Refusal
+while_revertible image session (Err r) = Err r
+while_revertible image session (Ok c) =
+    cond (revertible image session.header session.later) (Ok c) (Err NothingToRevert)
 
-unfoldable pub entered_back : List ℕ → Session → Opened
+unfoldable pub entered_back : List ℕ → Session → Result Container Refusal
 entered_back image session = while_revertible image session (while_idle session (opened image))
 
 -- ---- calls that read
 
 abbrev pub unread : (buffer : List ℕ) → Refusal → Read
-unread buffer r = record { outcome = outcome.Refused r; buffer = buffer }
+unread buffer r = record { outcome = Err r; buffer = buffer }
 
 -- a read of a view: what is checked first, 8, then 9 and 10
-abbrev pub read_in : (view : Container → (q : ℕ) → View) → List ℕ → (q place : ℕ) → (buffer : List ℕ) → Opened → Read
-read_in view image q place buffer (opening.Refused r) = unread buffer r
-read_in view image q place buffer (opening.Valid c) =
+abbrev pub read_in : (view : Container → (q : ℕ) → View) → List ℕ → (q place : ℕ) → (buffer : List ℕ) → Result Container Refusal → Read
+read_in view image q place buffer (Err r) = unread buffer r
+read_in view image q place buffer (Ok c) =
     cond (ltb q (partitions c)) (read_from (view c q) image place buffer) (unread buffer NoPartition)
 
 -- opening's refusals come first
@@ -74,20 +66,20 @@ unfoldable pub read_staged : List ℕ → Session → (q place : ℕ) → (buffe
 read_staged image session q place buffer = read_in staged_view image q place buffer (entered image session)
 
 -- opening's refusals, 8, then 9, yes or no; it speaks of the committed view
-abbrev pub verified_in : List ℕ → (q b : ℕ) → Opened → Verdict
-verified_in image q b (opening.Refused r) = verdict.Refused r
-verified_in image q b (opening.Valid c) =
-    cond (ltb q (partitions c)) (verdict_on (committed_view c q) image b) (verdict.Refused NoPartition)
+abbrev pub verified_in : List ℕ → (q b : ℕ) → Result Container Refusal → Result Bool Refusal
+verified_in image q b (Err r) = Err r
+verified_in image q b (Ok c) =
+    cond (ltb q (partitions c)) (verdict_on (committed_view c q) image b) (Err NoPartition)
 
-unfoldable pub is_verified : List ℕ → (q b : ℕ) → Verdict
+unfoldable pub is_verified : List ℕ → (q b : ℕ) → Result Bool Refusal
 is_verified image q b = verified_in image q b (opened image)
 
-abbrev pub count_verified_in : List ℕ → (q : ℕ) → Opened → Count
-count_verified_in image q (opening.Refused r) = count.Refused r
-count_verified_in image q (opening.Valid c) =
-    cond (ltb q (partitions c)) (count_in (committed_view c q) image) (count.Refused NoPartition)
+abbrev pub count_verified_in : List ℕ → (q : ℕ) → Result Container Refusal → Result ℕ Refusal
+count_verified_in image q (Err r) = Err r
+count_verified_in image q (Ok c) =
+    cond (ltb q (partitions c)) (count_in (committed_view c q) image) (Err NoPartition)
 
-unfoldable pub count_verified : List ℕ → (q : ℕ) → Count
+unfoldable pub count_verified : List ℕ → (q : ℕ) → Result ℕ Refusal
 count_verified image q = count_verified_in image q (opened image)
 
 -- ---- calls on a session
@@ -111,9 +103,9 @@ pub record Stepped (step : Step) (image : List ℕ) (after : After) : Type 0 whe
   pub stored : image ≡ after.image
 
 -- such a call goes on with the container that its first checks give, or is refused
-abbrev pub goes_on : List ℕ → Session → (Container → After) → Opened → After
-goes_on image session next (opening.Refused r) = unchanged image session r
-goes_on image session next (opening.Valid c) = next c
+abbrev pub goes_on : List ℕ → Session → (Container → After) → Result Container Refusal → After
+goes_on image session next (Err r) = unchanged image session r
+goes_on image session next (Ok c) = next c
 
 -- begin: it remembers the header, and forgets what an idle session remembers
 abbrev pub begin_on : List ℕ → Container → After
@@ -128,9 +120,9 @@ finished view place bytes session after =
     cond (holds_zero view place bytes after) (record { outcome = ending.Dropped; image = after; session = idle }) (done after session)
 
 -- what was judged: if it is accepted the call goes on, else it is refused
-abbrev pub leaving : Outcome → List ℕ → Session → After → After
-leaving outcome.Accepted image session next = next
-leaving (outcome.Refused r) image session next = unchanged image session r
+abbrev pub leaving : Result (Unit {0}) Refusal → List ℕ → Session → After → After
+leaving (Ok tt) image session next = next
+leaving (Err r) image session next = unchanged image session r
 
 -- a write to a partition that is there: 9, 10, and 17 last
 abbrev pub write_to : Container → List ℕ → Session → (q place : ℕ) → List ℕ → After

@@ -1,13 +1,8 @@
 -- What the machinery behind the calls asks and gives.
-use Rattle.std.specs.Prelude.{◌≡◌, List, ℕ, ◌+◌, ◌≤◌, ◌<◌, length}
+use Rattle.std.specs.Prelude.{◌≡◌, ℕ, ◌+◌, ◌≤◌, ◌<◌}
 use Rattle.number.specs.Blocks.{block_of, last_block}
 use Rattle.layout.specs.declared.Container.{Container}
-use Rattle.layout.specs.declared.Refusal.{Refusal}
-use Rattle.layout.specs.declared.Refusal.TheVariants.{Length}
-use Rattle.layout.specs.declared.Opened.{Opened}
-use Rattle.layout.specs.declared.Opened.TheVariants as opening
 use Rattle.ivfc.specs.declared.View.{View}
-use Rattle.ivfc.specs.Rules.{ViewRules}
 use Rattle.views.specs.Places.{slot_of, partition_of}
 use Rattle.steps.specs.Sessions.{selector_place}
 
@@ -19,14 +14,8 @@ pub record HoldsMarks (c : Container) (q start end : ℕ) : Type 0 where
   pub bit : (partition_of c q).difi.selector ≤ 1
 
 -- the blocks of a write's first and last byte
-pub record EndRules (view : View) (image : List ℕ) (place n first last : ℕ) : Type 0 where
-  pub rules : ViewRules view (length image)
+pub record EndRules (view : View) (place n first last : ℕ) : Type 0 where
   pub some : 0 < n
   pub fits : place + n ≤ view.level4.size
   pub start : first ≡ block_of view.level4 place
   pub stop : last ≡ last_block view.level4 place n
-
--- why opening, or what is checked after it, refuses; where it does not, nobody asks
-abbrev pub refusal_of : Opened → Refusal
-refusal_of (opening.Refused r) = r
-refusal_of (opening.Valid c) = Length

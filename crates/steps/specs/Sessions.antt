@@ -1,13 +1,13 @@
 -- A session: what it remembers, what begin leaves, when its image is the one that it began on, what a write answers, and when a revert may be.
-use Rattle.std.specs.Prelude.{ℕ, zero, suc, ◌+◌, ◌-◌, Bool, true, false, ◌&&◌, ◌||◌, cond, List, get_or, set, replicate, eqb}
+use Rattle.std.specs.Result.{is_ok}
+use Rattle.std.specs.Prelude.{ℕ, zero, suc, ◌+◌, ◌-◌, Bool, true, false, ◌&&◌, ◌||◌, cond, List, get_or, set, replicate, eqb, Result}
+use Rattle.layout.specs.declared.Refusal.{Refusal}
 use Rattle.std.proofs.lemmas.List.Edits.{sets}
 use Rattle.number.specs.Ranges.{part}
 use Rattle.number.specs.Bytes.{within, same_bytes}
 use Rattle.layout.specs.declared.Slot.{Slot}
 use Rattle.layout.specs.declared.Container.{Container}
-use Rattle.layout.specs.declared.Opened.{Opened}
 use Rattle.layout.specs.Descriptors.{selector_offset}
-use Rattle.layout.specs.declared.Opened.TheVariants as opening
 use Rattle.layout.specs.Headers.{header_bytes}
 use Rattle.layout.specs.Tables.{active, inactive}
 use Rattle.layout.specs.Opening.{opened}
@@ -17,7 +17,6 @@ use Rattle.ivfc.specs.Views.{verified}
 use Rattle.update.specs.Covering.{covered}
 use Rattle.commits.specs.Committing.{stored_header}
 use Rattle.views.specs.Places.{partitions, slot_of, partition_of, tree_of}
-use Rattle.layout.specs.declared.Outcome.{Outcome}
 use Rattle.steps.specs.declared.Session.{Session}
 use Rattle.steps.specs.Reading.{refuse_outside, refuse_lowest}
 
@@ -92,20 +91,16 @@ current c image session = same_bytes (header_bytes image) session.header && tabl
 -- ---- write
 
 -- 10: a touched block that the write covers only in part is not verified
-unfoldable pub ends_outcome : View → List ℕ → (place n : ℕ) → Outcome
+unfoldable pub ends_outcome : View → List ℕ → (place n : ℕ) → Result (Unit {0}) Refusal
 ends_outcome view image place n =
     refuse_lowest (λ (b : ℕ). covered view.level4 place n b || verified view image 4 b) view place n
 
 -- 9, 10: the last with the lowest block to which it applies
-unfoldable pub write_outcome : View → List ℕ → (place n : ℕ) → Outcome
+unfoldable pub write_outcome : View → List ℕ → (place n : ℕ) → Result (Unit {0}) Refusal
 write_outcome view image place n = refuse_outside view place n (ends_outcome view image place n)
 
 -- ---- revert (02: back, one step back)
 
-abbrev pub is_valid : Opened → Bool
-is_valid (opening.Valid c) = true
-is_valid (opening.Refused r) = false
-
 -- the present header is as remembered, and the image opens under the former one; else the call is refused with 21
 unfoldable pub revertible : List ℕ → (former later : List ℕ) → Bool
-revertible image former later = same_bytes (header_bytes image) later && is_valid (opened (stored_header image former))
+revertible image former later = same_bytes (header_bytes image) later && is_ok (opened (stored_header image former))

@@ -1,19 +1,8 @@
-// What the calls have in common: opening's refusals, and whether a partition is there.
+// What the calls have in common: whether a partition is there.
 ghost use Rattle.std.specs.Prelude.{◌≡◌, ltb};
 ghost use Rattle.views.specs.Places.{partitions};
-ghost use Rattle.steps.specs.Rules.{refusal_of};
 
-use layout::{Container, Opened, Refusal};
-
-// Why opening refuses an image.
-pub fn refusal_of(answer: Opened) -> Refusal
-    ensures { result ≡ refusal_of answer }
-{
-    match answer {
-        Opened::Valid(_) => Refusal::Length,
-        Opened::Refused(refusal) => refusal,
-    }
-}
+use layout::Container;
 
 // There is such a partition.
 pub fn has_partition(c: Container, q: u64) -> bool

@@ -6,40 +6,34 @@ use super::Session;
 use super::reverting::is_revertible;
 use super::staleness::is_current;
 use layout::opening::open;
-use layout::{Opened, Refusal};
+use layout::{Container, Refusal};
 
 // For a call of a begun session: 13 and 14.
-pub fn enter(image: &[u8], session: Session) -> Opened
+pub fn enter(image: &[u8], session: Session) -> Result<Container, Refusal>
     ensures { result ≡ entered image.now session }
 {
-    let answer = open(image);
-    let Opened::Valid(c) = answer else {
-        return answer;
-    };
+    let c = open(image)?;
     if !session.begun {
-        return Opened::Refused(Refusal::SessionState);
+        return Err(Refusal::SessionState);
     }
     if !is_current(image, c, session) {
-        return Opened::Refused(Refusal::Stale);
+        return Err(Refusal::Stale);
     }
-    answer
+    Ok(c)
 }
 
 // For a step back: 13 if begun, and 21.
-pub fn enter_back(image: &[u8], session: Session) -> Opened
+pub fn enter_back(image: &[u8], session: Session) -> Result<Container, Refusal>
     ensures { result ≡ entered_back image.now session }
 {
-    let answer = open(image);
-    let Opened::Valid(_c) = answer else {
-        return answer;
-    };
+    let c = open(image)?;
     if session.begun {
-        return Opened::Refused(Refusal::SessionState);
+        return Err(Refusal::SessionState);
     }
     let former = session.header;
     let later = session.later;
     if !is_revertible(image, former, later) {
-        return Opened::Refused(Refusal::NothingToRevert);
+        return Err(Refusal::NothingToRevert);
     }
-    answer
+    Ok(c)
 }

@@ -12,23 +12,8 @@ pub mod staleness;
 pub mod viewing;
 pub mod writing;
 
-// Whether a block is verified.
-#[derive(Clone, Copy)]
-pub enum Verdict {
-    Yes,
-    No,
-    Refused(Refusal),
-}
-
-// How many blocks are verified, or are faults.
-#[derive(Clone, Copy)]
-pub enum Count {
-    Blocks(u64),
-    Refused(Refusal),
-}
-
 // How a call that changes an image ends. A refused call has changed nothing. One that would hold a digest of all zeros is dropped, which is 17: a write
-// ends its session then, and the making of a blank image leaves zeros.
+// ends its session then, and the making of a blank image leaves zeros. Three cases and no `Result`: 17 has stored, and what is refused has not.
 #[derive(Clone, Copy)]
 pub enum Ending {
     Accepted,
@@ -37,7 +22,8 @@ pub enum Ending {
 }
 
 // A session. Begun, it remembers the 256 header bytes in `header`. Idle, it remembers those before and after the last commit in it, in `header` and
-// `later`; where there is nothing to remember both are zero, and no image that opens has such a header.
+// `later`; where there is nothing to remember both are zero, and no image that opens has such a header. A flag beside headers and no enum: the C
+// interface lends a session as bytes, and any bytes are one.
 #[derive(Clone, Copy)]
 pub struct Session {
     pub begun: bool,

@@ -1,20 +1,10 @@
 // Whether an image may go back to the header before its last commit.
 ghost use Rattle.std.specs.Prelude.{◌≡◌, ◌≤◌, length};
-ghost use Rattle.steps.specs.Sessions.{is_valid, revertible};
+ghost use Rattle.steps.specs.Sessions.{revertible};
 
 use layout::opening::open_under;
-use layout::{FRONT, HEADER, Opened};
+use layout::{FRONT, HEADER};
 use number::runs::same_bytes;
-
-// Opening's answer is that the image opens.
-fn is_valid(answer: Opened) -> bool
-    ensures { result ≡ is_valid answer }
-{
-    match answer {
-        Opened::Valid(_) => true,
-        Opened::Refused(_) => false,
-    }
-}
 
 // The present header is the one after the commit, and the image opens under the one before it.
 pub fn is_revertible(image: &[u8], former: [u8; 256], later: [u8; 256]) -> bool
@@ -24,5 +14,9 @@ pub fn is_revertible(image: &[u8], former: [u8; 256], later: [u8; 256]) -> bool
     if !same_bytes(&image[HEADER..FRONT], &later) {
         return false;
     }
-    is_valid(open_under(image, &former))
+    // by `match`: `is_ok` takes a reference to a container, and tests/stores lets none be
+    match open_under(image, &former) {
+        Ok(_) => true,
+        Err(_) => false,
+    }
 }

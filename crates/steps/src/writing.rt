@@ -1,6 +1,5 @@
 // Writing to a partition that is there, and how a call on a session ends.
-ghost use Rattle.std.specs.Prelude.{◌≡◌, cond, ◌<◌};
-ghost use Rattle.layout.specs.declared.Opened.TheVariants.{Valid};
+ghost use Rattle.std.specs.Prelude.{◌≡◌, cond, ◌<◌, Ok};
 ghost use Rattle.layout.specs.Opening.{opened};
 ghost use Rattle.views.specs.Places.{partitions};
 ghost use Rattle.steps.specs.Sessions.{idle};
@@ -9,7 +8,8 @@ ghost use Rattle.steps.specs.Calls.{Stepped};
 
 use super::judging::judge_write;
 use super::{Ending, Session, Step};
-use layout::{Container, Outcome, Refusal};
+use ivfc::Reader;
+use layout::{Container, Refusal};
 use update::write_level4;
 use views::places::{space_of, staged_view};
 
@@ -59,13 +59,13 @@ pub fn write_partition(
     place: u64,
     bytes: &[u8],
 ) -> Step
-    requires { (opened image.old ≡ Valid c) × (q < partitions c) }
+    requires { (opened image.old ≡ Ok c) × (q < partitions c) }
     ensures { Stepped result image.new (calls.write_to c image.old session q place bytes.now) }
 {
     let view = staged_view(c, q);
-    match judge_write(view, image, place, bytes.len() as u64) {
-        Outcome::Refused(refusal) => refused(session, refusal),
-        Outcome::Accepted => finish(
+    match judge_write(Reader { view, image }, place, bytes.len() as u64) {
+        Err(refusal) => refused(session, refusal),
+        Ok(()) => finish(
             write_level4(space_of(c), view, image, place, bytes),
             session,
         ),

@@ -1,11 +1,10 @@
 -- What the proofs of the staging code cite: what its calls ask for, and what they leave. Assumes nothing.
-use mathlib.Core.Path.{◌≡◌, refl, sym, ap, ◌∙◌, subst, subst₂, subst₃}
+use mathlib.Core.Path.{◌≡◌, sym, ap, ◌∙◌, subst, subst₂, subst₃}
 use mathlib.Core.List.{List}
-use mathlib.Core.Bool.{Bool, true, false, not, cond, beq}
+use mathlib.Core.Bool.{Bool, not, cond}
 use mathlib.Core.Logic.{inl, inr}
 use Prim.Native.Nat.{ℕ, ◌+◌, ◌-◌, ◌*◌, ◌≤◌, ◌<◌}
 use native.Mathlib.Omega.{arith}
-use native.Mathlib.Nat.{add-zero}
 use lib.ListN.{length, get_or, set, take, drop, length-drop, take-append-drop}
 use lib.Seq.{sets, length-take-le, drop-drop, drop-length}
 use Rattle.number.specs.declared.Level.{Level}
@@ -13,7 +12,7 @@ use Rattle.number.specs.Blocks.{block_size, blocks, block_of, block_length}
 use Rattle.number.specs.Bytes.{copied}
 use Rattle.number.specs.Frame.{Keeps}
 use Rattle.number.proofs.BlockLaws.{exists_byte, block_inside}
-use Rattle.number.proofs.FrameLaws.{keeps_trans, keeps_set, keeps_copied}
+use Rattle.number.proofs.FrameLaws.{keeps_copied}
 use Rattle.dpfs.specs.declared.Tree.{Tree}
 use Rattle.dpfs.specs.declared.Space.{Space}
 use Rattle.dpfs.specs.Free.{FreeCopy, FreeIn, Free}
@@ -43,10 +42,6 @@ module _ (space : Space) (image after : List ℕ) (source target n i : ℕ) (r :
 
   pub copy_free : Free space after (target + i)
   copy_free = still_free space image r.own after copy_keeps (target + i) (r.free i h)
-
-pub store_keeps : (F : ℕ → Type 0) (image now after : List ℕ) (i v : ℕ) → Keeps F image now → F i → after ≡ set now i v → Keeps F image after
-store_keeps F image now after i v k f e =
-    subst (Keeps F image) (sym e) (keeps_trans (λ i f. f) k (keeps_set F now i v f))
 
 -- ---- copies
 
@@ -91,12 +86,6 @@ unfolding block_copied
 block_copied_is image after l second b y source target n ey es et en e = cc
 
 -- ---- moves
-
-pub same_is : (a b : Bool) → beq a b ≡ same a b
-same_is true true = refl
-same_is true false = refl
-same_is false true = refl
-same_is false false = refl
 
 -- the space and the place of the bit stay in the copy
 module _ (space : Space) (image after : List ℕ) (l : Level) (second : Bool) (b : ℕ) (r : BlockRules space image l second b) (e : after ≡ block_copied l second b image) where
@@ -264,9 +253,6 @@ pub put_kept : (space : Space) (tree : Tree) (image : List ℕ) → OwnSpace spa
 put_kept space tree image r m x values now after k h e =
     space_trans space (length image) (own_rules space image r) image now after k
     (subst (Keeps (Free space now) now) (sym e) (space_put space tree now (own_rules space now (own_kept space image r now k)) m x values h))
-
-pub put_start : (tree : Tree) (x : ℕ) (values image : List ℕ) → put tree (x + 0) (drop 0 values) image ≡ put tree x values image
-put_start tree x values image = ap (λ (z : ℕ). put tree z values image) (add-zero x)
 
 -- the run from i to k is put, and the rest is left
 pub put_turn : (tree : Tree) (x i k : ℕ) (values image after goal : List ℕ) → i ≤ k → k ≤ length values

@@ -1,20 +1,19 @@
 -- What the stores of this crate ask. A space that is handed in is the image's own, so that its free bytes are those that 01 lets a session
 -- store to, and every copy goes to free bytes.
-use Rattle.std.specs.Prelude.{◌≡◌, List, Bool, not, ◌⊎◌, ℕ, ◌+◌, ◌*◌, ◌≤◌, ◌<◌, length}
+use Rattle.std.specs.Prelude.{◌≡◌, List, Bool, not, ◌⊎◌, ℕ, ◌+◌, ◌*◌, ◌≤◌, ◌<◌, length, Ok}
 use Rattle.number.specs.declared.Level.{Level}
 use Rattle.number.specs.Blocks.{blocks, block_of}
 use Rattle.dpfs.specs.declared.Space.{Space}
 use Rattle.dpfs.specs.Free.{Free}
 use Rattle.dpfs.specs.Tree.{place}
 use Rattle.layout.specs.declared.Container.{Container}
-use Rattle.layout.specs.declared.Opened.TheVariants.{Valid}
 use Rattle.layout.specs.Opening.{opened}
 use Rattle.views.specs.Places.{space_of}
 
 -- the image opens, and the space is that of the container that it opens as
 pub record OwnSpace (space : Space) (image : List ℕ) : Type 0 where
   pub container : Container
-  pub opens : opened image ≡ Valid container
+  pub opens : opened image ≡ Ok container
   pub same : space ≡ space_of container
 
 -- what a copy of n bytes asks: both places lie in the image and apart, and the target is free

@@ -11,9 +11,9 @@ ghost use Rattle.dpfs.specs.Staging.{OffLive2, same, block_copied, moved2, moved
 ghost use Rattle.dpfs.specs.Rules.{Among, block_rest};
 ghost use Rattle.stores.specs.Rules.{OwnSpace, CopyRules, BlockRules};
 
-use dpfs::bits::{bit_place, byte_of_bit, copy2, copy3, flipped, place_of};
+use dpfs::bits::{byte_of_bit, flipped, place_of};
 use dpfs::reading::block_end;
-use dpfs::{Space, Tree};
+use dpfs::{Selection, Space, Tree};
 use number::Level;
 use number::blocks::{block_length, block_of, block_size};
 
@@ -26,17 +26,18 @@ pub fn store(space: Space, image: &mut [u8], i: u64, value: u8)
     image[at] = value;
 }
 
+// Space, tree and image are passed one by one, here and in update: tests/stores lets no reference to a space or a tree be, and a struct that lends the
+// image was tried; `OwnSpace` is no proposition, so that no ghost field can say it.
+
 // Copies n bytes within the image, to free places.
 pub fn copy_within(space: Space, image: &mut [u8], source: u64, target: u64, n: u64)
     requires { CopyRules space image.old source target n }
     ensures { image.new ≡ copied image.old source target n }
 {
-    let mut i = 0;
-    while i < n {
+    for i in 0..n {
         let at = (source + i) as usize;
         let value = image[at];
         store(space, image, target + i, value);
-        i += 1;
     }
 }
 
@@ -45,11 +46,8 @@ pub fn store_bytes(space: Space, image: &mut [u8], x: u64, values: &[u8])
     requires { (OwnSpace space image.old) × (x + length values.now ≤ length image.old) × ((m : ℕ) → m < length values.now → Free space image.old (x + m)) }
     ensures { image.new ≡ sets image.old x values.now }
 {
-    let mut i = 0;
-    while i < values.len() {
-        let value = values[i];
-        store(space, image, x + i as u64, value);
-        i += 1;
+    for (i, value) in values.iter().enumerate() {
+        store(space, image, x + i as u64, *value);
     }
 }
 
@@ -103,8 +101,18 @@ fn move2(space: Space, tree: Tree, image: &mut [u8], j: u64)
     ensures { image.new ≡ moved2 tree j image.old }
 {
     let l = tree.level1;
-    let live = copy2(tree, image, tree.live, j);
-    let staged = copy2(tree, image, !tree.live, j);
+    let live_half = Selection {
+        tree,
+        image,
+        half: tree.live,
+    };
+    let other_half = Selection {
+        tree,
+        image,
+        half: !tree.live,
+    };
+    let live = live_half.copy2(j);
+    let staged = other_half.copy2(j);
     let at = place_of(l, !tree.live, byte_of_bit(j));
     move_block(space, image, tree.level2, live, staged, at, j);
 }
@@ -115,9 +123,19 @@ fn move3_alone(space: Space, tree: Tree, image: &mut [u8], b: u64)
     requires off_live2 { OffLive2 tree image.old (block_of tree.level2 (bit_byte b)) }
     ensures { image.new ≡ moved3alone tree b image.old }
 {
-    let live = copy3(tree, image, tree.live, b);
-    let staged = copy3(tree, image, !tree.live, b);
-    let at = bit_place(tree, image, !tree.live, b);
+    let live_half = Selection {
+        tree,
+        image,
+        half: tree.live,
+    };
+    let other_half = Selection {
+        tree,
+        image,
+        half: !tree.live,
+    };
+    let live = live_half.copy3(b);
+    let staged = other_half.copy3(b);
+    let at = other_half.bit_place(b);
     move_block(space, image, tree.level3, live, staged, at, b);
 }
 
@@ -140,7 +158,9 @@ fn put_run(space: Space, tree: Tree, image: &mut [u8], x: u64, values: &[u8])
     let l = tree.level3;
     let b = block_of(l, x);
     move3(space, tree, image, b);
-    let second = copy3(tree, image, !tree.live, b);
+    let half = !tree.live;
+    let other_half = Selection { tree, image, half };
+    let second = other_half.copy3(b);
     store_bytes(space, image, place_of(l, second, x), values);
 }
 
@@ -151,6 +171,7 @@ pub fn put_bytes(space: Space, tree: Tree, image: &mut [u8], x: u64, values: &[u
 {
     let end = x + values.len() as u64;
     let mut i = 0;
+    // A `while`: each turn goes on by as many bytes as its block has left.
     while i < values.len() {
         let z = x + i as u64;
         let next = (block_end(tree, z, end) - x) as usize;

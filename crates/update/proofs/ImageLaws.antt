@@ -172,7 +172,7 @@ module _ (space : Space) (view : View) (n : ℕ) (r : StagedRules space view n) 
     where
       beyonds : view.external ≡ true → Among tree space → Avoids (InRange (outer_range view)) tree
       beyonds e (inl t) = subst (Avoids (InRange (outer_range view))) (sym t) (beyond_avoids (outer_range view) space.a (r.outer e).a)
-      beyonds e (inr (two, t)) = subst (Avoids (InRange (outer_range view))) (sym t) (beyond_avoids (outer_range view) space.b ((r.outer e).b two))
+      beyonds e (inr t) = beyond_avoids (outer_range view) tree ((r.outer e).b tree t)
 
   own_outer : Avoids (OuterByte view) view.tree
   own_outer = outer_avoids view.tree r.among

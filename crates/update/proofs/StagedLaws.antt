@@ -7,7 +7,6 @@ use mathlib.Core.Logic.{◌⊎◌, inl, inr}
 use Prim.Native.Nat.{ℕ, ◌+◌, ◌*◌, ◌≤◌, ◌<◌}
 use native.Mathlib.Omega.{arith}
 use lib.ListN.{length}
-use borrow.Author.Tests.{eqb-true}
 use Rattle.number.specs.declared.Range.{Range}
 use Rattle.number.specs.declared.Level.{Level}
 use Rattle.number.specs.Ranges.{Apart, level_range, twice}
@@ -27,7 +26,7 @@ use Rattle.ivfc.specs.declared.View.{View}
 use Rattle.ivfc.specs.Rules.{ViewRules}
 use Rattle.views.specs.Places.{partitions, slot_of, partition_of, tree_in, tree_of, view_in, staged_view, space_of}
 use Rattle.views.specs.Protected.{ExternalByte}
-use Rattle.views.proofs.PlaceLaws.{present, inactive_partition, tree_inside, space_rules, tree_among, staged_rules, staged_apart, staged_master, first_there}
+use Rattle.views.proofs.PlaceLaws.{present, inactive_partition, tree_inside, space_rules, tree_among, staged_rules, staged_apart, staged_master, first_there, of_second}
 use Rattle.views.proofs.ProtectedLaws.{same_or_apart}
 use Rattle.views.proofs.OpenLaws.{Storable, storable_opens}
 use Rattle.update.specs.Rules.{outer_range, OuterRules, StagedRules, OwnView, StagedIn}
@@ -91,7 +90,7 @@ module _ (image : List ℕ) (c : Container) (g : Guarantees image c) (q : ℕ) (
   outer_rules e = record {
     table = off_table e;
     a = any_tree e 0 (first_there (length image) c.header g.header);
-    b = λ two. any_tree e 1 (omega (arith, eqb-true (partitions c) 2 two));
+    b = of_second c (BeyondAll outer_of) (λ two. any_tree e 1 (omega (arith, two)));
   }
 
   rules_of : StagedRules (space_of c) (staged_view c q) (length image)

@@ -1,11 +1,11 @@
 -- What a write asks: the space and the staged view are those of the image itself, and the rules that these keep to.
-use Rattle.std.specs.Prelude.{◌≡◌, List, true, false, not, ℕ, ◌+◌, ◌≤◌, ◌<◌, length}
+use Rattle.std.specs.Prelude.{◌≡◌, List, true, false, not, ℕ, ◌+◌, ◌≤◌, ◌<◌, length, Ok, Some}
 use Rattle.number.specs.Blocks.{block_of, last_block, touches}
 use Rattle.number.specs.declared.Range.{Range}
 use Rattle.number.specs.Ranges.{Apart}
 use Rattle.layout.specs.declared.Container.{Container}
-use Rattle.layout.specs.declared.Opened.TheVariants.{Valid}
 use Rattle.layout.specs.Opening.{opened}
+use Rattle.dpfs.specs.declared.Tree.{Tree}
 use Rattle.dpfs.specs.declared.Space.{Space}
 use Rattle.dpfs.specs.Free.{InRange}
 use Rattle.dpfs.specs.Rules.{SpaceRules, Among, BeyondAll}
@@ -24,7 +24,7 @@ outer_range view = record { offset = view.outside; size = view.level4.size }
 pub record OuterRules (space : Space) (view : View) : Type 0 where
   pub table : Apart space.table (outer_range view)
   pub a : BeyondAll (outer_range view) space.a
-  pub b : space.two ≡ true → BeyondAll (outer_range view) space.b
+  pub b : (b : Tree) → space.b ≡ Some b → BeyondAll (outer_range view) b
 
 -- the bytes of an external level 4 in a written range; of an internal one there are none
 unfoldable pub InPlace : View → (x n : ℕ) → (i : ℕ) → Type 0
@@ -46,7 +46,7 @@ pub record OwnView (view : View) (image : List ℕ) : Type 0 where
   pub container : Container
   pub partition : ℕ
   pub there : partition < partitions container
-  pub opens : opened image ≡ Valid container
+  pub opens : opened image ≡ Ok container
   pub same : view ≡ staged_view container partition
 
 -- and the space is that container's; both then keep to StagedRules

@@ -10,12 +10,11 @@ ghost use Rattle.update.specs.Rules.{StagedIn, EndsRules};
 
 use super::put_level;
 use dpfs::Space;
-use ivfc::View;
 use ivfc::gathering::level_of;
-use ivfc::matching::block_matches;
 use ivfc::verifying::parent_of;
+use ivfc::{Reader, View};
 use number::Level;
-use number::blocks::{block_length, block_size, lesser};
+use number::blocks::{block_length, block_size};
 
 // How many zeros are put at once.
 const ZEROS: u64 = 64;
@@ -26,12 +25,9 @@ fn put_zeros(space: Space, view: View, image: &mut [u8], i: u64, x: u64, n: u64)
     ensures { image.new ≡ put_level view i x (replicate n 0) image.old }
 {
     let zeros = [0u8; ZEROS as usize];
-    let mut done = 0;
-    while done < n {
-        let piece = lesser(ZEROS, n - done);
-        let size = piece as usize;
-        put_level(space, view, image, i, x + done, &zeros[..size]);
-        done += piece;
+    for done in (0..n).step_by(ZEROS as usize) {
+        let piece = ZEROS.min(n - done) as usize;
+        put_level(space, view, image, i, x + done, &zeros[..piece]);
     }
 }
 
@@ -50,7 +46,8 @@ fn empty_one(space: Space, view: View, image: &mut [u8], i: u64, b: u64)
     requires { (StagedIn space view image.old) × (1 ≤ i) × (i ≤ 4) × (b < blocks (level_of view i)) }
     ensures { image.new ≡ emptied (level_of view) (content_of view) (put_level view) (matches view image.old i) i b 1 image.old }
 {
-    if !block_matches(view, image, i, b) {
+    let reader = Reader { view, image };
+    if !reader.block_matches(i, b) {
         empty_block(space, view, image, i, b);
     }
 }
@@ -60,10 +57,8 @@ fn empty_level(space: Space, view: View, image: &mut [u8], i: u64, from: u64, en
     requires { (StagedIn space view image.old) × (1 ≤ i) × (i ≤ 4) × (end ≤ blocks (level_of view i)) }
     ensures { image.new ≡ emptied (level_of view) (content_of view) (put_level view) (matches view image.old i) i from (end - from) image.old }
 {
-    let mut b = from;
-    while b < end {
+    for b in from..end {
         empty_one(space, view, image, i, b);
-        b += 1;
     }
 }
 

@@ -5,9 +5,8 @@
 use clearing::clear_for;
 use dpfs::Space;
 use ivfc::gathering::level_of;
-use ivfc::hashing::digests_from;
 use ivfc::verifying::parent_of;
-use ivfc::{ENTRY, View};
+use ivfc::{ENTRY, Reader, View};
 use number::blocks::block_of;
 use stores::staging::{put_bytes, store_bytes};
 use zeros::zero_held;
@@ -38,11 +37,8 @@ fn put_outside(view: View, image: &mut [u8], x: u64, values: &[u8])
     ensures { image.new ≡ sets image.old (view.outside + x) values.now }
 {
     let n = values.len() as u64;
-    let mut i = 0;
-    while i < values.len() {
-        let value = values[i];
-        store_outside(view, image, x, n, view.outside + x + i as u64, value);
-        i += 1;
+    for (i, value) in values.iter().enumerate() {
+        store_outside(view, image, x, n, view.outside + x + i as u64, *value);
     }
 }
 
@@ -72,7 +68,8 @@ fn enter_some(space: Space, view: View, image: &mut [u8], i: u64, b: u64, end: u
     requires { (StagedIn space view image.old) × (i < 4) × (b < end) × (end ≤ blocks (level_of view (suc i))) }
     ensures { (0 < result) × (b + result ≤ end) × (image.new ≡ entered (level_of view) (content_of view) (put_level view) i b result image.old) }
 {
-    let digests = digests_from(view, image, i + 1, b, end);
+    let reader = Reader { view, image };
+    let digests = reader.digests_from(i + 1, b, end);
     let n = digests.count;
     let size = (ENTRY * n) as usize;
     let hashes = digests.bytes;
@@ -86,6 +83,7 @@ fn enter(space: Space, view: View, image: &mut [u8], i: u64, first: u64, last: u
     ensures { image.new ≡ entered (level_of view) (content_of view) (put_level view) i first (suc last - first) image.old }
 {
     let mut b = first;
+    // A `while`: each turn goes on by as many blocks as were hashed at once.
     while b <= last {
         let n = enter_some(space, view, image, i, b, last + 1);
         b += n;
@@ -129,7 +127,7 @@ fn write_blocks(
     clear_for(space, view, image, x, n, first, last);
     put_level(space, view, image, 4, x, values);
     rehash(space, view, image, 4, first, last);
-    zero_held(view, image, 4, first, last)
+    zero_held(Reader { view, image }, 4, first, last)
 }
 
 // Writes bytes to level 4 of the staged view from x on, and says whether a digest that the finished write holds is all zero. Of no bytes

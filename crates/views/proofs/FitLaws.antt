@@ -1,4 +1,5 @@
 -- The sums of offsets of an opened image are small, so the functions that make its trees, views and space may be called. Assumes nothing.
+use Rattle.std.specs.Prelude.{Option, Some, None}
 use Prim.Native.Nat.{ℕ, ◌+◌, ◌≤◌, ◌<◌}
 use mathlib.Core.Bool.{Bool, true, false}
 use mathlib.Core.List.{List}
@@ -10,8 +11,6 @@ use Rattle.number.specs.Ranges.{part}
 use Rattle.layout.specs.declared.Header.{Header}
 use Rattle.layout.specs.declared.Slot.{Slot}
 use Rattle.layout.specs.declared.Partition.{Partition}
-use Rattle.layout.specs.declared.Second.{Second}
-use Rattle.layout.specs.declared.Second.TheVariants.{Missing, There}
 use Rattle.layout.specs.declared.Container.{Container}
 use Rattle.layout.specs.Tables.{active, inactive}
 use Rattle.layout.specs.Descriptors.{difi_fields, partition_fields}
@@ -68,12 +67,12 @@ space_fits image c g = record {
   b = second c.b g.b;
 }
   where
-    second : (b : Second) → SecondGuarantees (part image (active c.header)) c.header b → TreeFits c.header.b (second_or c.a b)
-    second Missing e =
+    second : (b : Option Partition) → SecondGuarantees (part image (active c.header)) c.header b → TreeFits c.header.b (second_or c.a b)
+    second None e =
         let none : c.header.b.partition.offset ≡ 0 = ap (λ (x : Slot). x.partition.offset) (g.header.unused e) in
         record {
           level1 = omega (arith, g.a.guarantees.pair1_inside, g.header.a.partition_inside);
           level2 = omega (arith, g.a.guarantees.pair2_inside, g.header.a.partition_inside);
           level3 = omega (arith, g.a.guarantees.pair3_inside, g.header.a.partition_inside);
         }
-    second (There b) (e, d) = tree_fits (length image) c.header c.header.b b (g.header.b e) d.guarantees g.longest
+    second (Some b) (e, d) = tree_fits (length image) c.header c.header.b b (g.header.b e) d.guarantees g.longest

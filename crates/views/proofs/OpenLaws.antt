@@ -1,5 +1,6 @@
 -- Opening looks at no free byte and at none of an external level 4: an image that differs from an opened one there alone opens as the same
 -- container. Assumes nothing.
+use Rattle.std.specs.Prelude.{Ok}
 use mathlib.Core.Path.{◌≡◌, sym}
 use mathlib.Core.List.{List}
 use mathlib.Core.Logic.{◌⊎◌, inl, inr}
@@ -8,7 +9,6 @@ use native.Mathlib.Omega.{arith}
 use Rattle.number.specs.Frame.{Keeps}
 use Rattle.number.proofs.FrameLaws.{keeps_more}
 use Rattle.layout.specs.declared.Container.{Container}
-use Rattle.layout.specs.declared.Opened.TheVariants.{Valid}
 use Rattle.layout.specs.Headers.{front}
 use Rattle.layout.specs.Tables.{active}
 use Rattle.layout.specs.Opening.{opened}
@@ -37,14 +37,14 @@ module _ (image : List ℕ) (c : Container) (g : Guarantees image c) (i : ℕ) w
   active_not_storable h (inr (q, k, x)) =
       never_both (active c.header) (slot_of c q).partition i (active_partition image c g q k) h (external_inside image c g q i k x)
 
-module _ (image after : List ℕ) (c : Container) (o : opened image ≡ Valid c) where
+module _ (image after : List ℕ) (c : Container) (o : opened image ≡ Ok c) where
   g : Guarantees image c
   g = guarantees image c o
 
-  pub storable_opens : Keeps (Storable c image) image after → opened after ≡ Valid c
+  pub storable_opens : Keeps (Storable c image) image after → opened after ≡ Ok c
   storable_opens k =
       frame_opened image after c o (sym k.size) (λ i a b. sym (k.bytes i (front_not_storable image c g i (a, b))))
       (λ i a b. sym (k.bytes i (active_not_storable image c g i (a, b))))
 
-  pub free_opens : Keeps (Free (space_of c) image) image after → opened after ≡ Valid c
+  pub free_opens : Keeps (Free (space_of c) image) image after → opened after ≡ Ok c
   free_opens k = storable_opens (keeps_more (λ i f. inl f) k)

@@ -1,10 +1,12 @@
 -- What the partitions of an opened image keep to: their trees, their two views, and the space of a session. Everything here follows from the
 -- guarantees of opening. Assumes nothing.
+use Rattle.std.specs.Prelude.{Option, Some, None}
+use Rattle.std.proofs.lemmas.Option.{cond_some, none-some}
 use Prim.Native.Nat.{ℕ, zero, suc, ◌+◌, ◌*◌, ◌≤◌, ◌<◌}
 use mathlib.Core.Bool.{Bool, true, false, not, cond}
 use mathlib.Core.List.{List}
 use mathlib.Core.Logic.{◌⊎◌, inl, inr}
-use mathlib.Core.Path.{◌≡◌, refl}
+use mathlib.Core.Path.{◌≡◌, refl, sym, subst}
 use native.Mathlib.Omega.{arith}
 use lib.ListN.{length}
 use lib.Dec.{eqb}
@@ -16,8 +18,6 @@ use Rattle.number.specs.Blocks.{block_size, blocks}
 use Rattle.layout.specs.declared.Header.{Header}
 use Rattle.layout.specs.declared.Slot.{Slot}
 use Rattle.layout.specs.declared.Partition.{Partition}
-use Rattle.layout.specs.declared.Second.{Second}
-use Rattle.layout.specs.declared.Second.TheVariants.{Missing, There}
 use Rattle.layout.specs.declared.Container.{Container}
 use Rattle.layout.specs.Headers.{front}
 use Rattle.layout.specs.Tables.{active, inactive}
@@ -179,6 +179,23 @@ module _ (n : ℕ) (h : Header) (g : HeaderGuarantees n h) where
   pub third_missing : (q : ℕ) → suc (suc q) < h.count → ⊥
   third_missing q k = omega (arith, second_there (omega arith))
 
+-- the space's second tree is partition B's, where there are two
+pub of_second : (c : Container) (P : Tree → Type 0) → (partitions c ≡ 2 → P (tree_of c 1)) → (b : Tree) → (space_of c).b ≡ Some b → P b
+unfolding space_of
+of_second c P p b e = let (two, same) = cond_some (eqb (partitions c) 2) (tree_of c 1) b e in subst P same (p (eqb-true (partitions c) 2 two))
+
+pub second_is : (c : Container) → partitions c ≡ 2 → (space_of c).b ≡ Some (tree_of c 1)
+unfolding space_of
+second_is c two = rw (eq-eqb (partitions c) 2 two) refl
+
+pub none_second : (c : Container) → (space_of c).b ≡ None → eqb (partitions c) 2 ≡ false
+unfolding space_of
+none_second c = go (eqb (partitions c) 2)
+  where
+    go : (two : Bool) → cond two (Some (tree_of c 1)) None ≡ None → two ≡ false
+    go true e = absurd (none-some (tree_of c 1) (sym e))
+    go false e = refl
+
 -- partition q of an opened image
 pub record Present (image : List ℕ) (c : Container) (q : ℕ) : Type 0 where
   pub slot : SlotGuarantees (length image) c.header (slot_of c q)
@@ -189,9 +206,9 @@ unfolding slot_of partition_of
 present image c g zero k = record { slot = g.header.a; described = g.a }
 present image c g (suc zero) k = second c.b g.b
   where
-    second : (b : Second) → SecondGuarantees (part image (active c.header)) c.header b → Present image (record { header = c.header; a = c.a; b = b }) 1
-    second Missing e = absurd (omega arith)
-    second (There b) (e, d) = record { slot = g.header.b e; described = d }
+    second : (b : Option Partition) → SecondGuarantees (part image (active c.header)) c.header b → Present image (record { header = c.header; a = c.a; b = b }) 1
+    second None e = absurd (omega arith)
+    second (Some b) (e, d) = record { slot = g.header.b e; described = d }
 present image c g (suc (suc q)) k = absurd (third_missing (length image) c.header g.header q k)
 
 -- both tables are of one size and lie in the image past its first 0x200 bytes
@@ -310,19 +327,14 @@ module _ (image : List ℕ) (c : Container) (g : Guarantees image c) where
         a = tree_rules 0 some;
         table = inactive_table.inside;
         beyond = inactive_beyond 0 some;
-        b = λ e. tree_rules 1 (two e);
-        aside = λ e. trees_aside (slot_of c 0).partition (slot_of c 1).partition (tree_of c 0) (tree_of c 1) (apart e) (tree_inside 0 some) (tree_inside 1 (two e));
-        beyond_b = λ e. inactive_beyond 1 (two e);
+        b = of_second c (λ (t : Tree). WellPlaced t (length image)) (λ two. tree_rules 1 (omega (arith, two)));
+        aside = of_second c (Aside (tree_of c 0)) (λ two. trees_aside (slot_of c 0).partition (slot_of c 1).partition (tree_of c 0) (tree_of c 1)
+            (g.header.partitions_apart two) (tree_inside 0 some) (tree_inside 1 (omega (arith, two))));
+        beyond_b = of_second c (BeyondAll (inactive c.header)) (λ two. inactive_beyond 1 (omega (arith, two)));
       }
-    where
-      two : eqb (partitions c) 2 ≡ true → 1 < partitions c
-      two e = omega (arith, eqb-true (partitions c) 2 e)
-
-      apart : eqb (partitions c) 2 ≡ true → Apart (slot_of c 0).partition (slot_of c 1).partition
-      apart e = g.header.partitions_apart (eqb-true (partitions c) 2 e)
 
   pub tree_among : (q : ℕ) → q < partitions c → Among (tree_of c q) (space_of c)
   unfolding space_of
   tree_among zero k = inl refl
-  tree_among (suc zero) k = inr (eq-eqb (partitions c) 2 (second_there (length image) c.header g.header k), refl)
+  tree_among (suc zero) k = inr (second_is c (second_there (length image) c.header g.header k))
   tree_among (suc (suc q)) k = absurd (third_missing (length image) c.header g.header q k)

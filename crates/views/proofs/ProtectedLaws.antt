@@ -7,7 +7,6 @@ use mathlib.Core.Path.{◌≡◌, refl, sym, ◌∙◌, subst}
 use native.Mathlib.Decide.{dec_lt}
 use native.Mathlib.Omega.{arith}
 use lib.ListN.{length}
-use borrow.Author.Tests.{eqb-true}
 use Rattle.number.specs.declared.Range.{Range}
 use Rattle.number.specs.declared.Level.{Level}
 use Rattle.number.specs.Blocks.{block_of}
@@ -25,7 +24,7 @@ use Rattle.dpfs.specs.Free.{InRange, FreeCopy, FreeIn, Free}
 use Rattle.dpfs.proofs.SpaceLaws.{space_spares, tree_free, table_free}
 use Rattle.views.specs.Places.{partitions, slot_of, partition_of, tree_in, tree_of, space_of}
 use Rattle.views.specs.Protected.{LiveCopy, LiveIn, pair_range, ExternalByte, NamedBy, Named, Protected}
-use Rattle.views.proofs.PlaceLaws.{TreeIn, first_there, second_there, third_missing, present, inactive_table, tables_apart_lem, active_partition, inactive_partition, tree_inside, space_rules, tree_among}
+use Rattle.views.proofs.PlaceLaws.{TreeIn, first_there, second_there, third_missing, present, inactive_table, tables_apart_lem, active_partition, inactive_partition, tree_inside, space_rules, tree_among, of_second}
 
 -- ---- ranges
 
@@ -154,7 +153,8 @@ module _ (image : List ℕ) (c : Container) (g : Guarantees image c) (i : ℕ) w
   unfolding Free space_of
   free_somewhere (inl h) = inl h
   free_somewhere (inr (inl f)) = inr (0, some, f)
-  free_somewhere (inr (inr (e, f))) = inr (1, omega (arith, eqb-true (partitions c) 2 e), f)
+  free_somewhere (inr (inr (b, e, f))) = inr (of_second c (λ (t : Tree). FreeIn t image i → (q : ℕ) × (q < partitions c) × FreeIn (tree_of c q) image i)
+      (λ two f. (1, omega (arith, two), f)) b e f)
 
   free_in_partition : (q : ℕ) → q < partitions c → FreeIn (tree_of c q) image i → InRange (slot_of c q).partition i
   free_in_partition q k f = pairs_inside (tree_of c q) image i (slot_of c q).partition (tree_inside image c g q k) (free_in_pairs (tree_of c q) image i f)

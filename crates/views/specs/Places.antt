@@ -1,12 +1,10 @@
 -- The partitions of an opened container at their places in the image, their two views, and what a session may store to.
 -- Partition 0 is A and 1 is B.
-use Rattle.std.specs.Prelude.{ℕ, ◌+◌, Bool, not, cond, eqb}
+use Rattle.std.specs.Prelude.{ℕ, ◌+◌, Bool, not, cond, eqb, Option, Some, None}
 use Rattle.number.specs.declared.Range.{Range}
 use Rattle.number.specs.declared.Level.{Level}
 use Rattle.layout.specs.declared.Slot.{Slot}
 use Rattle.layout.specs.declared.Partition.{Partition}
-use Rattle.layout.specs.declared.Second.{Second}
-use Rattle.layout.specs.declared.Second.TheVariants.{Missing, There}
 use Rattle.layout.specs.declared.Container.{Container}
 use Rattle.layout.specs.Descriptors.{external_range}
 use Rattle.layout.specs.Tables.{active, inactive}
@@ -19,9 +17,9 @@ abbrev pub partitions : Container → ℕ
 partitions c = c.header.count
 
 -- B, or A where there is no B: then nobody asks
-abbrev pub second_or : Partition → Second → Partition
-second_or a Missing = a
-second_or a (There b) = b
+abbrev pub second_or : Partition → Option Partition → Partition
+second_or a None = a
+second_or a (Some b) = b
 
 unfoldable pub slot_of : Container → (q : ℕ) → Slot
 slot_of c q = cond (eqb q 0) c.header.a c.header.b
@@ -80,4 +78,4 @@ staged_view c q = view_in (inactive c.header) (slot_of c q) (partition_of c q) (
 
 -- what a session may store to, beside an external level 4: the inactive table, and in each partition's DPFS what is not live
 unfoldable pub space_of : Container → Space
-space_of c = record { table = inactive c.header; a = tree_of c 0; b = tree_of c 1; two = eqb (partitions c) 2 }
+space_of c = record { table = inactive c.header; a = tree_of c 0; b = cond (eqb (partitions c) 2) (Some (tree_of c 1)) None }

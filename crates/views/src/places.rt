@@ -6,7 +6,7 @@ ghost use Rattle.views.specs.Rules.{TreeFits, ViewFits, PlacesFit, SpaceFits};
 use dpfs::{Space, Tree};
 use ivfc::View;
 use layout::tables::{active_range, inactive_range};
-use layout::{Container, Partition, Second, Slot};
+use layout::{Container, Partition, Slot};
 use number::{Level, Range};
 
 pub fn slot_of(c: Container, q: u64) -> Slot
@@ -26,8 +26,8 @@ pub fn partition_of(c: Container, q: u64) -> Partition
     }
     let second = c.b;
     match second {
-        Second::Missing => a,
-        Second::There(b) => b,
+        None => a,
+        Some(b) => b,
     }
 }
 
@@ -126,11 +126,10 @@ pub fn space_of(c: Container) -> Space
 {
     let table = inactive_range(c.header);
     let a = tree_in(slot_of(c, 0), partition_of(c, 0));
-    let b = tree_in(slot_of(c, 1), partition_of(c, 1));
-    Space {
-        table,
-        a,
-        b,
-        two: c.header.count == 2,
-    }
+    let b = if c.header.count == 2 {
+        Some(tree_in(slot_of(c, 1), partition_of(c, 1)))
+    } else {
+        None
+    };
+    Space { table, a, b }
 }

@@ -1,27 +1,31 @@
-use mathlib.Core.Path.{◌≡◌, refl, ap, ◌∙◌}
-use Prim.Native.Nat.{ℕ}
+use mathlib.Core.Path.{refl, sym, ◌∙◌}
+use lib.ListN.{length, length-append}
 use native.Mathlib.Omega.{arith}
 use Rattle.cmac.specs.Cmac.{chained}
-use Rattle.cmac.proofs.CodeLaws.{part_length, chain_more}
-use borrow.Author.Rules.{rules}
+use Rattle.cmac.proofs.CodeLaws.{chain_more, chain_done}
 use Rattle.cmac.proofs.chain.Goals as goal
 
-pub loop-i-init : goal.loop-i-init
+pub loop-block-init : goal.loop-block-init
 unfolding chained
-loop-i-init c = (search rules, refl)
+loop-block-init c =
+    let same = c.into_iter-block-iterator.ensures.into_iter_gives in
+    (refl, rw same c.chunks_exact-block-items.ensures.size, rw same c.chunks_exact-block-items.ensures.rest, omega arith)
 
 pub filled-requires : goal.filled-requires
-filled-requires c = omega (arith, part_length c.args.message.now c.loop-i.i (omega arith))
+filled-requires c = omega (arith, c.in-Some.ensures.steps.1.1, c.loop-block.invariant.1)
 
-pub loop-i-preserved : goal.loop-i-preserved
-loop-i-preserved c =
-    let l = c.loop-i in
+pub loop-block-preserved : goal.loop-block-preserved
+loop-block-preserved c =
     let a = c.args in
-    (omega arith, chain_more a.message.now l.i (omega arith) a.key l.x _ _ _ l.invariant.1 c.filled.ensures c.xor-y.ensures c.encrypt-z.ensures)
+    let l = c.loop-block in
+    let step = c.in-Some.ensures.steps in
+    let (x, rest, inside) =
+    chain_more a.key a.front.now c.in-Some.block.now c.next.new.self.rest.now l.x _ _ _ (length l.yielded) _ (length-append l.yielded _) l.invariant.3
+    (sym step.1.0 ∙ l.invariant.2) (step.1.1 ∙ l.invariant.1) l.invariant.0 c.filled.ensures c.xor-y.ensures c.encrypt-z.ensures in
+    (x, step.0 ∙ l.invariant.1, rest, inside)
 
 pub returns : goal.returns
 returns c =
-    let l = c.loop-i in
-    let a = c.args in
-    let e : l.i ≡ a.n = omega arith in
-    l.invariant.1 ∙ ap (λ (k : ℕ). chained a.key a.message.now k) e
+    let l = c.loop-block in
+    chain_done c.args.key c.args.front.now l.block-iterator.rest.now l.x (length l.yielded) l.invariant.3 l.invariant.2
+    (omega (arith, c.in-None.ensures.steps.1.0, l.invariant.1)) l.invariant.0

@@ -3,4 +3,4 @@ use Rattle.boundary.proofs.StateLaws.{fed_bytes}
 use Rattle.gateway.proofs.teplovist_digest_feed.Goals as goal
 
 pub returns : goal.returns
-returns c = fed_bytes _ c.advance-fed.result c.running_of.ensures c.advance-fed.ensures c.outcome_answer.ensures c.state_left.ensures
+returns c = fed_bytes _ c.advance-fed.result c.running_of.ensures c.advance-fed.ensures c.answer_of.ensures c.state_left.ensures

@@ -13,10 +13,13 @@ use Rattle.update.proofs.StagedLaws.{staged}
 use Rattle.update.proofs.CodeLaws.{some_entered, some_inside}
 use Rattle.update.proofs.enter_some.Goals as goal
 
+pub invariant_of-reader : goal.invariant_of-reader
+invariant_of-reader c = record { rules = ∣ (staged c.requires.0).rules ∣₁ }
+
 pub digests_from-digests-requires : goal.digests_from-digests-requires
 digests_from-digests-requires c =
     let p = c.requires in
-    ((staged p.0).rules, omega arith, omega (arith, p.2), rw add-one (omega (arith, p.3)))
+    (omega arith, omega (arith, p.2), rw add-one (omega (arith, p.3)))
 
 pub overflow_mul-b : goal.overflow_mul-b
 overflow_mul-b c =

@@ -2,14 +2,11 @@
 use Rattle.number.specs.Frame.{Keeps}
 use Rattle.update.proofs.StagedLaws.{OuterByte}
 use lib.Seq.{sets}
-use lib.ListN.{length, drop}
-use Prim.Native.Nat.{◌+◌, ◌≤◌, ◌-◌}
+use lib.ListN.{drop}
+use Prim.Native.Nat.{◌+◌}
 use mathlib.Core.Path.{◌≡◌}
 use Rattle.update.proofs.put_outside.Given as goal
 
 abbrev pub invariant-loop-i : goal.invariant-loop-i
 invariant-loop-i l =
-    (l.i ≤ length l.values) × Keeps (OuterByte l.view) l.initial.image l.image × (sets l.image (l.view.outside + l.x + l.i) (drop l.i l.values) ≡ sets l.initial.image (l.view.outside + l.x) l.values)
-
-abbrev pub decreases-loop-i : goal.decreases-loop-i
-decreases-loop-i l = length l.values - l.i
+    Keeps (OuterByte l.view) l.initial.image l.image × (sets l.image (l.view.outside + l.x + l.i) (drop l.i l.values) ≡ sets l.initial.image (l.view.outside + l.x) l.values)

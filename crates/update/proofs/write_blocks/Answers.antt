@@ -36,14 +36,13 @@ rehash-requires c =
       ends_exist a.space a.view a.image.now a.x (length a.values.now) a.first a.last c.requires,
     )
 
+pub invariant_of-zero_held : goal.invariant_of-zero_held
+invariant_of-zero_held c =
+    record { rules = ∣ rw (c.rehash.auto.image, c.put_level.auto.image, c.clear_for.auto.image) (staged c.requires.own).rules ∣₁ }
+
 pub zero_held-requires : goal.zero_held-requires
 zero_held-requires c =
     let a = c.args in (
-      rw (
-        c.rehash.auto.image,
-        c.put_level.auto.image,
-        c.clear_for.auto.image,
-      ) (staged c.requires.own).rules,
       omega arith,
       ends_ordered a.space a.view a.image.now a.x (length a.values.now) a.first a.last c.requires,
       ends_exist a.space a.view a.image.now a.x (length a.values.now) a.first a.last c.requires,

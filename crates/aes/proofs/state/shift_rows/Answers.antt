@@ -1,18 +1,14 @@
-use native.Mathlib.Omega.{arith}
+-- `shift_rows`: each byte is that of its place.
+use mathlib.Core.Path.{◌≡◌, refl}
+use lib.ListN.{get_or}
+use Prim.Native.Nat.{◌*◌, ◌%◌}
+use Rattle.std.proofs.Common.{of_calls}
 use Rattle.aes.specs.Aes.{ShiftRows}
-use Rattle.aes.proofs.Built.{built_none, built_more, built_block}
-use Rattle.aes.proofs.Places.{shifted_byte_lem}
-use borrow.Author.Rules.{rules}
+use Rattle.aes.proofs.Built.{from_fn_block}
 use Rattle.aes.proofs.state.shift_rows.Goals as goal
-
-pub loop-i-init : goal.loop-i-init
-loop-i-init c = built_none _ _ (search rules)
-
-pub loop-i-preserved : goal.loop-i-preserved
-loop-i-preserved c =
-    let l = c.loop-i in
-    built_more _ l.i l.out _ (omega arith) (shifted_byte_lem c.args.s l.i (omega arith)) l.invariant
 
 pub returns : goal.returns
 unfolding ShiftRows
-returns c = built_block _ c.loop-i.i c.loop-i.out (omega arith) c.loop-i.invariant
+returns c =
+    let s = c.args.s in
+    from_fn_block _ (λ i. get_or s (i * 5 % 16) 0) (λ f. f.0.now ≡ s) _ c.from_fn.result (λ p q i y e k. search of_calls) refl c.from_fn.ensures.items

@@ -1,20 +1,14 @@
-use mathlib.Core.Path.{◌∙◌}
-use native.Mathlib.Omega.{arith}
+-- `sub_bytes`: each byte is substituted.
+use mathlib.Core.Path.{◌≡◌, refl}
+use lib.ListN.{get_or}
+use Rattle.std.proofs.Common.{of_calls}
+use Rattle.aes.specs.Field.{sbox}
 use Rattle.aes.specs.Aes.{SubBytes}
-use Rattle.aes.proofs.Built.{built_none, built_more, built_block}
-use Rattle.aes.proofs.Places.{sub_byte_lem}
-use borrow.Author.Rules.{rules}
+use Rattle.aes.proofs.Built.{from_fn_block}
 use Rattle.aes.proofs.state.sub_bytes.Goals as goal
-
-pub loop-i-init : goal.loop-i-init
-loop-i-init c = built_none _ _ (search rules)
-
-pub loop-i-preserved : goal.loop-i-preserved
-loop-i-preserved c =
-    let l = c.loop-i in
-    let s = c.args.s in
-    built_more _ l.i l.out _ (omega arith) (c.substitute.ensures ∙ sub_byte_lem s l.i) l.invariant
 
 pub returns : goal.returns
 unfolding SubBytes
-returns c = built_block _ c.loop-i.i c.loop-i.out (omega arith) c.loop-i.invariant
+returns c =
+    let s = c.args.s in
+    from_fn_block _ (λ i. sbox (get_or s i 0)) (λ f. (f.0.now ≡ c.table-sbox.result) × (f.1.now ≡ s)) _ c.from_fn.result (λ p q i y e k. search of_calls) (refl, refl) c.from_fn.ensures.items

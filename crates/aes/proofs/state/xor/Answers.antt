@@ -1,16 +1,12 @@
-use mathlib.Core.Path.{refl}
-use native.Mathlib.Omega.{arith}
-use Rattle.aes.proofs.Built.{built_none, built_more, built_block}
-use borrow.Author.Rules.{rules}
+-- `xor`: each byte is a sum.
+use mathlib.Core.Path.{◌≡◌, refl}
+use lib.ListN.{get_or}
+use Rattle.std.proofs.Common.{of_calls}
+use Rattle.aes.specs.Field.{◌⊕◌}
+use Rattle.aes.proofs.Built.{from_fn_block}
 use Rattle.aes.proofs.state.xor.Goals as goal
 
-pub loop-i-init : goal.loop-i-init
-loop-i-init c = built_none _ _ (search rules)
-
-pub loop-i-preserved : goal.loop-i-preserved
-loop-i-preserved c =
-    let l = c.loop-i in
-    built_more _ l.i l.out _ (omega arith) refl l.invariant
-
 pub returns : goal.returns
-returns c = built_block _ c.loop-i.i c.loop-i.out (omega arith) c.loop-i.invariant
+returns c =
+    let a = c.args in
+    from_fn_block _ (λ i. get_or a.a i 0 ⊕ get_or a.b i 0) (λ f. (f.0.now ≡ a.a) × (f.1.now ≡ a.b)) _ c.from_fn.result (λ p q i y e k. search of_calls) (refl, refl) c.from_fn.ensures.items

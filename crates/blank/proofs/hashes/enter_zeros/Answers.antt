@@ -9,24 +9,12 @@ use Rattle.blank.proofs.hashes.enter_zeros.Goals as goal
 
 pub loop-k-init : goal.loop-k-init
 unfolding digests
-loop-k-init c = (omega arith, refl, refl)
-
-pub overflow_mul-k : goal.overflow_mul-k
-overflow_mul-k c = omega arith
-
-pub overflow_add-to : goal.overflow_add-to
-overflow_add-to c = omega arith
+loop-k-init c = (refl, refl)
 
 pub copy_into-requires : goal.copy_into-requires
 copy_into-requires c =
     let l = c.loop-k in
-    entry_fits l.image c.args.image.now _ _ c.args.to c.args.n l.k l.invariant.1 c.requires.0 c.loop-k-test.true c.digest-d.ensures
-
-pub overflow_add-k : goal.overflow_add-k
-overflow_add-k c = omega arith
-
-pub loop-k-smaller : goal.loop-k-smaller
-loop-k-smaller c = omega arith
+    entry_fits l.image c.args.image.now _ _ c.args.to c.args.n l.k l.invariant.0 c.requires.0 c.loop-k-test.true c.digest-d.ensures
 
 pub loop-k-preserved : goal.loop-k-preserved
 loop-k-preserved c =
@@ -34,15 +22,11 @@ loop-k-preserved c =
     let l = c.loop-k in
     let t = c.loop-k-test.true in
     let e = c.copy_into.ensures in (
-      omega (arith, t),
-      ap length e ∙ (simp length-sets) ∙ l.invariant.1,
-      copies_step a.image.now a.n a.to l.image _ _ l.k t l.invariant.2 c.digest-d.ensures e,
+      ap length e ∙ (simp length-sets) ∙ l.invariant.0,
+      copies_step a.image.now a.n a.to l.image _ _ l.k t l.invariant.1 c.digest-d.ensures e,
     )
-
-pub shape_of-image : goal.shape_of-image
-shape_of-image c = c.loop-k.invariant.1
 
 pub returns : goal.returns
 returns c =
     let l = c.loop-k in
-    let w = sized c.args.n c.requires.1 c.requires.2 in record { image_after = copies_end c.args.image.now c.args.n c.args.to l.image l.k w (omega (arith, l.invariant.0, c.loop-k-test.false)) l.invariant.2; value = zeros_zero c.args.n _ _ c.requires.1 w c.digest-d.ensures c.zero_entry.ensures }
+    let w = sized c.args.n c.requires.1 c.requires.2 in record { image_after = copies_end c.args.image.now c.args.n c.args.to l.image l.k w (omega arith) l.invariant.1; value = zeros_zero c.args.n _ _ c.requires.1 w c.digest-d.ensures c.zero_entry.ensures }

@@ -1,5 +1,4 @@
 -- `enter_zeros`: the invariant: so many copies are stored, which are the digests of so many blocks. Assumes nothing.
-use Prim.Native.Nat.{◌≤◌, ◌-◌}
 use mathlib.Core.Path.{◌≡◌}
 use lib.ListN.{length}
 use lib.Seq.{sets}
@@ -10,7 +9,4 @@ use Rattle.blank.proofs.hashes.enter_zeros.Given as goal
 
 abbrev pub invariant-loop-k : goal.invariant-loop-k
 invariant-loop-k l =
-    (l.k ≤ l.n) × (length l.image ≡ length l.initial.image) × (l.image ≡ sets l.initial.image l.to (digests (ivfc4 l.n) byte4 0 l.k))
-
-abbrev pub decreases-loop-k : goal.decreases-loop-k
-decreases-loop-k l = l.n - l.k
+    (length l.image ≡ length l.initial.image) × (l.image ≡ sets l.initial.image l.to (digests (ivfc4 l.n) byte4 0 l.k))

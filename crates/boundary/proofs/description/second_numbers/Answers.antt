@@ -1,5 +1,5 @@
 -- Zeros, or B's numbers.
 use Rattle.boundary.proofs.description.second_numbers.Goals as goal
 
-pub returns-in-There : goal.returns-in-There
-returns-in-There c = cc
+pub returns-in-Some : goal.returns-in-Some
+returns-in-Some c = cc

@@ -5,25 +5,25 @@ use Rattle.steps.proofs.SessionLaws.{signer_unfit, signed_done}
 use native.Mathlib.Omega.{arith}
 use Rattle.container.proofs.sessions.commit_signed.Goals as goal
 
-pub returns-in_default : goal.returns-in_default
+pub returns-in-Err : goal.returns-in-Err
 unfolding commit_signed
-returns-in_default c = session_refused _ _ _ c.enter-answer.ensures _ _ c.in_default.is c.refusal_of.ensures _ _ c.refused.ensures
+returns-in-Err c = session_refused _ _ _ c.enter.ensures _ c.in-Err.is _ _ c.refused.ensures
 
 pub header_of-header-requires : goal.header_of-header-requires
-header_of-header-requires c = (entered_well _ _ _ c.enter-answer.ensures _ c.in-Valid.is).shortest
+header_of-header-requires c = (entered_well _ _ _ c.enter.ensures _ c.in-Ok.is).shortest
 
 pub switch_signed-requires : goal.switch_signed-requires
-switch_signed-requires c = entered_well _ _ _ c.enter-answer.ensures _ c.in-Valid.is
+switch_signed-requires c = entered_well _ _ _ c.enter.ensures _ c.in-Ok.is
 
 pub header_of-later-requires : goal.header_of-later-requires
-header_of-later-requires c = omega (arith, c.switch_signed.auto.image, (entered_well _ _ _ c.enter-answer.ensures _ c.in-Valid.is).shortest)
+header_of-later-requires c = omega (arith, c.switch_signed.auto.image, (entered_well _ _ _ c.enter.ensures _ c.in-Ok.is).shortest)
 
-pub returns-in-Refused : goal.returns-in-Refused
+pub returns-in-Err-judge_signer : goal.returns-in-Err-judge_signer
 unfolding commit_signed
-returns-in-Refused c = session_goes_on _ _ _ c.enter-answer.ensures _ c.in-Valid.is _ _ _
-    (signer_unfit _ _ _ _ _ _ c.judge_signer.ensures _ c.in-Refused.is _ c.refused-in-Refused.ensures)
+returns-in-Err-judge_signer c = session_goes_on _ _ _ c.enter.ensures _ c.in-Ok.is _ _ _
+    (signer_unfit _ _ _ _ _ _ c.judge_signer.ensures _ c.in-Err-judge_signer.is _ c.refused-in-Err-judge_signer.ensures)
 
-pub returns-in-Accepted : goal.returns-in-Accepted
+pub returns-in-Ok-judge_signer : goal.returns-in-Ok-judge_signer
 unfolding commit_signed
-returns-in-Accepted c = session_goes_on _ _ _ c.enter-answer.ensures _ c.in-Valid.is _ _ _
-    (signed_done _ _ _ _ _ _ c.judge_signer.ensures c.in-Accepted.is _ _ _ c.header_of-header.ensures c.header_of-later.ensures c.switch_signed.ensures)
+returns-in-Ok-judge_signer c = session_goes_on _ _ _ c.enter.ensures _ c.in-Ok.is _ _ _
+    (signed_done _ _ _ _ _ _ c.judge_signer.ensures c.in-Ok-judge_signer.is _ _ _ c.header_of-header.ensures c.header_of-later.ensures c.switch_signed.ensures)

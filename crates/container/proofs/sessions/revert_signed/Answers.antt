@@ -6,21 +6,21 @@ use Rattle.steps.proofs.SessionLaws.{reverter_unfit, revert_signed_lem}
 use mathlib.Core.Path.{refl}
 use Rattle.container.proofs.sessions.revert_signed.Goals as goal
 
-pub returns-in_default : goal.returns-in_default
+pub returns-in-Err : goal.returns-in-Err
 unfolding revert_signed
-returns-in_default c = back_refuses _ _ _ c.enter_back-answer.ensures _ _ c.in_default.is c.refusal_of.ensures _ _ c.refused.ensures
+returns-in-Err c = back_refuses _ _ _ c.enter_back.ensures _ c.in-Err.is _ _ c.refused.ensures
 
 pub store_signed-requires : goal.store_signed-requires
-store_signed-requires c = (back_well _ _ _ c.enter_back-answer.ensures _ c.in-Valid.is).shortest
+store_signed-requires c = (back_well _ _ _ c.enter_back.ensures _ c.in-Ok.is).shortest
 
-pub returns-in-Refused : goal.returns-in-Refused
+pub returns-in-Err-judge_header : goal.returns-in-Err-judge_header
 unfolding revert_signed
-returns-in-Refused c =
-    back_goes_on _ _ _ c.enter_back-answer.ensures _ c.in-Valid.is (revert_by c.args.image.now c.args.session c.args.key c.args.signer (signed_header c.args.session.header c.args.signer)) _ _
-    (reverter_unfit c.args.image.now c.in-Valid._c c.args.session c.args.key c.args.signer _ refl _ c.judge_header.ensures _ c.in-Refused.is _ c.refused-in-Refused.ensures)
+returns-in-Err-judge_header c =
+    back_goes_on _ _ _ c.enter_back.ensures _ c.in-Ok.is (revert_by c.args.image.now c.args.session c.args.key c.args.signer (signed_header c.args.session.header c.args.signer)) _ _
+    (reverter_unfit c.args.image.now _ c.args.session c.args.key c.args.signer _ refl _ c.judge_header.ensures _ c.in-Err-judge_header.is _ c.refused-in-Err-judge_header.ensures)
 
-pub returns-in-Accepted : goal.returns-in-Accepted
+pub returns-in-Ok-judge_header : goal.returns-in-Ok-judge_header
 unfolding revert_signed
-returns-in-Accepted c =
-    back_goes_on _ _ _ c.enter_back-answer.ensures _ c.in-Valid.is (revert_by c.args.image.now c.args.session c.args.key c.args.signer (signed_header c.args.session.header c.args.signer)) _ _
-    (revert_signed_lem c.args.image.now c.in-Valid._c c.args.session c.args.key c.args.signer _ refl _ c.judge_header.ensures c.in-Accepted.is _ _ c.new.ensures c.store_signed.ensures)
+returns-in-Ok-judge_header c =
+    back_goes_on _ _ _ c.enter_back.ensures _ c.in-Ok.is (revert_by c.args.image.now c.args.session c.args.key c.args.signer (signed_header c.args.session.header c.args.signer)) _ _
+    (revert_signed_lem c.args.image.now _ c.args.session c.args.key c.args.signer _ refl _ c.judge_header.ensures c.in-Ok-judge_header.is _ _ c.new.ensures c.store_signed.ensures)

@@ -20,6 +20,6 @@ overflow_mul-block_of c =
 
 pub returns : goal.returns
 returns c =
-    c.lesser.ensures
+    c.min.ensures
     ∙ run_end_is c.args.tree c.args.x c.args.end _ c.requires.0
     (block_next c.args.tree.level3 c.args.x _ _ c.block_of.ensures c.block_size.ensures.0)

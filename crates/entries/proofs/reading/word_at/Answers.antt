@@ -5,7 +5,7 @@ use Rattle.entries.proofs.ReadLaws.{level4_is, word_is}
 use Rattle.entries.proofs.reading.word_at.Goals as goal
 
 pub gather-requires : goal.gather-requires
-gather-requires c = (c.requires.0, omega arith, rw (level4_is c.args.view) c.requires.1)
+gather-requires c = (omega arith, rw (level4_is c.args.reader.view) c.requires)
 
 pub returns : goal.returns
-returns c = c.field4.ensures ∙ word_is c.args.view c.args.image.now _ c.args.at c.requires.1 c.gather.ensures
+returns c = c.from_le_bytes.ensures ∙ word_is c.args.reader.view c.args.reader.image.now _ c.args.at c.requires c.gather.ensures

@@ -8,20 +8,6 @@ returns-then-i-eq1 c =
     let a = c.args in
     under_master a.view c.requires.0 a.i a.above a.b a.n _ c.requires.1 c.requires.2 c.requires.3 c.if-i-eq1.true
 
-pub level_of-upper-requires : goal.level_of-upper-requires
-level_of-upper-requires c = tt
-
-pub parent_of-first-requires : goal.parent_of-first-requires
-parent_of-first-requires c =
-    (omega (arith, (upper_logs c.args.view c.requires.0 c.args.i c.requires.1 c.requires.2 _ c.level_of-upper.ensures).1), omega (arith, c.requires.3, c.requires.4))
-
-pub overflow_sub-n : goal.overflow_sub-n
-overflow_sub-n c = omega (arith, c.requires.3)
-
-pub parent_of-last-requires : goal.parent_of-last-requires
-parent_of-last-requires c =
-    (omega (arith, (upper_logs c.args.view c.requires.0 c.args.i c.requires.1 c.requires.2 _ c.level_of-upper.ensures).1), omega (arith, c.requires.3, c.requires.4))
-
 pub overflow_add-above : goal.overflow_add-above
 overflow_add-above c =
     let a = c.args in
@@ -41,9 +27,6 @@ pub first_unmarked-found-requires : goal.first_unmarked-found-requires
 first_unmarked-found-requires c =
     let a = c.args in
     omega (arith, upper_between a.view c.requires.0 a.i a.b a.n c.requires.1 c.requires.2 c.requires.3 _ c.level_of-upper.ensures _ _ c.parent_of-first.ensures c.parent_of-last.ensures)
-
-pub overflow_sub-n-2 : goal.overflow_sub-n-2
-overflow_sub-n-2 c = omega (arith, c.requires.3)
 
 pub overflow_sub-found : goal.overflow_sub-found
 overflow_sub-found c =

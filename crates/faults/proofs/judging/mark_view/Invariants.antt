@@ -1,4 +1,4 @@
--- `mark_view` meets its contract. The loop's invariant: the levels before i are judged. The measure is how many are left. Assumes nothing.
+-- `mark_view` meets its contract. The loop's invariant: the levels before i are judged. Assumes nothing.
 use Prim.Native.Nat.{◌+◌, ◌-◌, ◌≤◌}
 use mathlib.Core.Path.{◌≡◌}
 use lib.ListN.{length}
@@ -7,8 +7,5 @@ use Rattle.faults.proofs.judging.mark_view.Given as goal
 
 abbrev pub invariant-loop-i : goal.invariant-loop-i
 invariant-loop-i l =
-    (1 ≤ l.i) × (l.i ≤ 5) × (length l.marks ≡ length l.initial.marks) × (l.above ≡ l.start + blocks_before l.view (l.i - 1)) × (l.at ≡ l.start + blocks_before l.view l.i)
-    × Judges l.view l.image l.initial.marks l.start l.i l.marks
-
-abbrev pub decreases-loop-i : goal.decreases-loop-i
-decreases-loop-i l = 5 - l.i
+    (1 ≤ l.i) × (length l.marks ≡ length l.initial.marks) × (l.above ≡ l.start + blocks_before l.reader.view (l.i - 1)) × (l.at ≡ l.start + blocks_before l.reader.view l.i)
+    × Judges l.reader.view l.reader.image.now l.initial.marks l.start l.i l.marks

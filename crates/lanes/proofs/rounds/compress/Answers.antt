@@ -2,16 +2,6 @@
 use Rattle.lanes.proofs.LaneLaws.{lane_compress}
 use Rattle.lanes.proofs.rounds.compress.Goals as goal
 
-pub fold-requires : goal.fold-requires
-fold-requires c =
-    let given = c.args in
-    (c.last_turns.ensures given.a.now given.e.now c.first_turns.ensures.reached).size_a
-
-pub fold-requires-2 : goal.fold-requires-2
-fold-requires-2 c =
-    let given = c.args in
-    (c.last_turns.ensures given.a.now given.e.now c.first_turns.ensures.reached).size_e
-
 pub returns : goal.returns
 returns c =
     let given = c.args in

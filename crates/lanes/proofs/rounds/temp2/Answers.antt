@@ -10,5 +10,5 @@ use Rattle.lanes.proofs.rounds.temp2.Goals as goal
 pub returns : goal.returns
 returns c =
     let given = c.args in
-    λ z change before. c.add.ensures ∙ ap (λ (s : ℕ). s ⊞ bit_xor given.b (bit_and given.change given.before)) c.sum0.ensures
+    λ z change before. ap (λ (s : ℕ). s ⊞ bit_xor given.b (bit_and given.change given.before)) c.sum0.ensures
     ∙ temp₂-by given.a given.b z given.change given.before (search rules) (search rules) (search rules) change before

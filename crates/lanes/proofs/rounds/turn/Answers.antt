@@ -11,5 +11,5 @@ returns c =
     let first = c.temp1-x in
     let second = c.temp2-y in
     λ a₀ e₀ reached.
-    reached_more given.constants.now given.words.now a₀ e₀ given.a.now given.e.now given.changes.now given.i first.result second.result c.add-next_a.result c.add-next_e.result c.requires
-    first.ensures (second.ensures (get_or given.a.now (given.i + 8) 0) refl) c.add-next_e.ensures c.add-next_a.ensures reached
+    reached_more given.constants.now given.words.now a₀ e₀ given.a.now given.e.now given.changes.now given.i first.result second.result _ _ c.requires
+    first.ensures (second.ensures (get_or given.a.now (given.i + 8) 0) refl) refl refl reached

@@ -23,19 +23,13 @@ level_range-pair3-requires c = tt
 pub pairs_and_one_placed-requires : goal.pairs_and_one_placed-requires
 pairs_and_one_placed-requires c = tt
 
-pub three_placed-requires : goal.three_placed-requires
-three_placed-requires c = tt
-
 pub pairs_placed-requires : goal.pairs_placed-requires
 pairs_placed-requires c = tt
 
-pub four_placed-requires : goal.four_placed-requires
-four_placed-requires c = tt
-
 pub returns-then-p : goal.returns-then-p
 unfolding levels_placed
-returns-then-p c = rw (levels_placed, c.if-p.true, c.pairs_and_one_placed.ensures, c.three_placed.ensures, c.level_range-level1.ensures, c.level_range-level2.ensures, c.level_range-level3.ensures, c.level_range-level4.ensures, c.level_range-pair2.ensures, c.level_range-pair3.ensures)
+returns-then-p c = rw (levels_placed, c.if-p.true, c.pairs_and_one_placed.ensures, c.are_placed.ensures, c.level_range-level1.ensures, c.level_range-level2.ensures, c.level_range-level3.ensures, c.level_range-level4.ensures, c.level_range-pair2.ensures, c.level_range-pair3.ensures)
 
 pub returns-else-p : goal.returns-else-p
 unfolding levels_placed
-returns-else-p c = rw (levels_placed, c.if-p.false, c.pairs_placed.ensures, c.four_placed.ensures, c.level_range-level1.ensures, c.level_range-level2.ensures, c.level_range-level3.ensures, c.level_range-level4.ensures, c.level_range-pair2.ensures, c.level_range-pair3.ensures)
+returns-else-p c = rw (levels_placed, c.if-p.false, c.pairs_placed.ensures, c.are_placed-else-p.ensures, c.level_range-level1.ensures, c.level_range-level2.ensures, c.level_range-level3.ensures, c.level_range-level4.ensures, c.level_range-pair2.ensures, c.level_range-pair3.ensures)

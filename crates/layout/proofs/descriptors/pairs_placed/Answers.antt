@@ -21,8 +21,5 @@ pair_of-requires-2 c = omega (arith, three_end _ _ _ _ (sym c.pairs_fit.ensures 
 pub pair_of-requires-3 : goal.pair_of-requires-3
 pair_of-requires-3 c = omega (arith, three_end _ _ _ _ (sym c.pairs_fit.ensures ∙ c.if-not-pairs_fit.false))
 
-pub three_placed-requires : goal.three_placed-requires
-three_placed-requires c = tt
-
 pub returns : goal.returns
-returns c = c.three_placed.ensures ∙ λ i. placed c.args.whole (c.pair_of.ensures i ∷ c.pair_of-2.ensures i ∷ c.pair_of-3.ensures i ∷ [])
+returns c = c.are_placed.ensures ∙ λ i. placed c.args.whole (c.pair_of.ensures i ∷ c.pair_of-2.ensures i ∷ c.pair_of-3.ensures i ∷ [])

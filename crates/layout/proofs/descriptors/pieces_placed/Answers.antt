@@ -2,9 +2,6 @@
 use Rattle.layout.specs.Descriptors.{pieces_placed}
 use Rattle.layout.proofs.descriptors.pieces_placed.Goals as goal
 
-pub four_placed-requires : goal.four_placed-requires
-four_placed-requires c = tt
-
 pub returns : goal.returns
 unfolding pieces_placed
-returns c = c.four_placed.ensures
+returns c = c.are_placed.ensures

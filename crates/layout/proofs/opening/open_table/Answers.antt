@@ -1,5 +1,6 @@
 -- `layout::opening::open_table` meets its contract. Assumes nothing.
 use mathlib.Core.Path.{sym, ◌∙◌}
+use Rattle.layout.proofs.PassedUp.{passed_up}
 use Rattle.layout.specs.Opening.{after_table}
 use Rattle.layout.proofs.opening.open_table.Goals as goal
 
@@ -16,10 +17,10 @@ judge_slot-requires c = tt
 pub open_second-requires : goal.open_second-requires
 open_second-requires c = tt
 
-pub returns-in-GoodPartition : goal.returns-in-GoodPartition
+pub returns-in_err-a : goal.returns-in_err-a
 unfolding after_table
-returns-in-GoodPartition c = rw (after_table, sym c.table_matches.ensures ∙ c.if-not-table_matches.false, sym c.judge_slot.ensures ∙ c.in-GoodPartition.is) c.open_second.ensures
+returns-in_err-a c = rw (after_table, sym c.table_matches.ensures ∙ c.if-not-table_matches.false, sym c.judge_slot.ensures ∙ c.in_err-a.was, passed_up _ _ c.from_residual.ensures.1)
 
-pub returns-in-BadPartition : goal.returns-in-BadPartition
+pub returns : goal.returns
 unfolding after_table
-returns-in-BadPartition c = rw (after_table, sym c.table_matches.ensures ∙ c.if-not-table_matches.false, sym c.judge_slot.ensures ∙ c.in-BadPartition.is)
+returns c = rw (after_table, sym c.table_matches.ensures ∙ c.if-not-table_matches.false, sym c.judge_slot.ensures ∙ c.in_ok-a.was) c.open_second.ensures

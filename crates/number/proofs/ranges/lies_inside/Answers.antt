@@ -1,5 +1,3 @@
-use borrow.Author.Tests.{lt-leb}
-use mathlib.Core.Path.{sym}
 use native.Mathlib.Omega.{arith}
 use Prim.Native.Nat.{◌+◌, ◌-◌}
 use Rattle.number.proofs.Tests.{leb_same}
@@ -13,4 +11,5 @@ returns-then-offset-whole c = let a = c.args in
 
 pub returns-else-offset-whole : goal.returns-else-offset-whole
 unfolding inside
-returns-else-offset-whole c = let a = c.args in sym (lt-leb (a.offset + a.size) a.whole (omega arith))
+returns-else-offset-whole c = let a = c.args in
+    leb_same a.offset a.whole (a.offset + a.size) a.whole (λ h. omega arith) (λ h. omega arith)

@@ -1,24 +1,25 @@
 -- `save::viewing::find_in` meets its contract. Assumes nothing.
 use mathlib.Core.Path.{ap, ◌∙◌}
-use Rattle.save.specs.Calls.{sought_of}
-use Rattle.save.proofs.CallLaws.{legible, file_is, save_searchable}
+use Rattle.std.proofs.lemmas.Result.{err_from_is_err_and}
+use Rattle.save.specs.Calls.{save_refusal, sought_of}
+use Rattle.save.proofs.CallLaws.{nothing_known, file_is, save_searchable, mapped_ok, mapped_err, walk_sought}
 use Rattle.save.proofs.viewing.find_in.Goals as goal
 
-pub open_save-entered-requires : goal.open_save-entered-requires
-open_save-entered-requires c = legible c.args.view c.args.image.now 262144 c.requires
+pub open_save-requires : goal.open_save-requires
+open_save-requires c = nothing_known c.args.reader.view c.args.reader.image.now 262144
+
+pub returns-in_err-s : goal.returns-in_err-s
+returns-in_err-s c =
+    let p = err_from_is_err_and c.from_residual.result c.from_residual.ensures.1 in
+    let m = mapped_err save_refusal _ _ _ c.map_err.ensures.cases c.in_err-s.was in
+    rw (p.1, p.2, m.2) (file_is c.args.reader.view c.args.reader.image.now _ c.open_save.ensures.0 c.args.folder c.args.name.now _ m.1)
 
 pub find-requires : goal.find-requires
 find-requires c =
-    let s = save_searchable c.args.view c.args.image.now _ c.open_save-entered.ensures.0 _ c.in-Valid.is in
-    (record { rules = c.requires; knows = c.open_save-entered.ensures.1 }, s.0, s.1, s.2)
+    let s = save_searchable c.args.reader.view c.args.reader.image.now _ c.open_save.ensures.0 _ (mapped_ok save_refusal _ _ _ c.map_err.ensures.cases c.in_ok-s.was) in
+    (c.open_save.ensures.1, s.0, s.1, s.2)
 
-pub returns-in-NoSave : goal.returns-in-NoSave
-returns-in-NoSave c = file_is c.args.view c.args.image.now _ c.open_save-entered.ensures.0 c.args.folder c.args.name.now _ c.in-NoSave.is
-
-pub returns-in-Unverified : goal.returns-in-Unverified
-returns-in-Unverified c = file_is c.args.view c.args.image.now _ c.open_save-entered.ensures.0 c.args.folder c.args.name.now _ c.in-Unverified.is
-
-pub returns-in-Valid : goal.returns-in-Valid
-returns-in-Valid c =
-    c.sought_by.ensures ∙ ap sought_of c.find.ensures
-    ∙ file_is c.args.view c.args.image.now _ c.open_save-entered.ensures.0 c.args.folder c.args.name.now _ c.in-Valid.is
+pub returns : goal.returns
+returns c =
+    walk_sought _ _ c.map_err-2.ensures.cases ∙ ap sought_of c.find.ensures
+    ∙ file_is c.args.reader.view c.args.reader.image.now _ c.open_save.ensures.0 c.args.folder c.args.name.now _ (mapped_ok save_refusal _ _ _ c.map_err.ensures.cases c.in_ok-s.was)

@@ -2,24 +2,6 @@
 use Rattle.sha256.proofs.Schedules.{compress_is}
 use Rattle.sha256.proofs.block.compress.Goals as goal
 
-pub vars_of-start-requires : goal.vars_of-start-requires
-vars_of-start-requires c = tt
-
-pub rounds_0_to_15-vars-requires : goal.rounds_0_to_15-vars-requires
-rounds_0_to_15-vars-requires c = tt
-
-pub rounds_16_to_31-requires : goal.rounds_16_to_31-requires
-rounds_16_to_31-requires c = tt
-
-pub rounds_32_to_47-requires : goal.rounds_32_to_47-requires
-rounds_32_to_47-requires c = tt
-
-pub rounds_48_to_63-s-requires : goal.rounds_48_to_63-s-requires
-rounds_48_to_63-s-requires c = tt
-
-pub added-requires : goal.added-requires
-added-requires c = tt
-
 pub returns : goal.returns
 returns c =
     let b = c.args.block.now in

@@ -3,8 +3,5 @@ use mathlib.Core.Path.{refl}
 use Rattle.sha256.proofs.Schedules.{slid}
 use Rattle.sha256.proofs.block.slide.Goals as goal
 
-pub next_word-next-requires : goal.next_word-next-requires
-next_word-next-requires c = tt
-
 pub returns : goal.returns
 returns c = λ b t h win. slid b t c.args.w _ _ h win c.next_word-next.ensures refl

@@ -2,11 +2,5 @@
 use Rattle.sha256.proofs.Schedules.{step_more}
 use Rattle.sha256.proofs.block.step.Goals as goal
 
-pub slide-words-requires : goal.slide-words-requires
-slide-words-requires c = tt
-
-pub round-vars-requires : goal.round-vars-requires
-round-vars-requires c = tt
-
 pub returns : goal.returns
 returns c = λ b v t h ek r. step_more b v _ _ _ t _ ek r.vars (c.slide-words.ensures b t h r.words) c.round-vars.ensures

@@ -1,6 +1,6 @@
 -- `update`: the piece is fed in three parts.
 use native.Mathlib.Omega.{arith}
-use mathlib.Core.Path.{◌≡◌, sym, subst}
+use mathlib.Core.Path.{◌≡◌, subst}
 use mathlib.Core.List.{List, [], ◌++◌}
 use Prim.Native.Nat.{ℕ, ◌+◌, ◌-◌}
 use lib.ListN.{length, take, drop, length-append}
@@ -15,33 +15,6 @@ returns-then-n-first c =
     let a = c.args.running in
     let e = c.feed_end.ensures in
     record { total_value = e.total_value; by_index = grows_holds a c.feed_end.result p e.total_value e.by_index; result_value = grows_state a c.feed_end.result p e.rest_len e.total_value e.by_index }
-
-pub slice_bounds-feed_end-end : goal.slice_bounds-feed_end-end
-slice_bounds-feed_end-end c = sym (length-take-le c.to_fill-first.result c.args.piece.now (omega arith))
-
-pub feed_end-filled-requires : goal.feed_end-filled-requires
-feed_end-filled-requires c = omega (arith, length-take-le c.to_fill-first.result c.args.piece.now (omega arith))
-
-pub feed_blocks-whole-requires : goal.feed_blocks-whole-requires
-feed_blocks-whole-requires c =
-    let p = c.args.piece.now in
-    let f = c.to_fill-first.result in
-    let q = c.end_of_blocks-last.result in
-    omega (arith, length-take-le f p (omega arith), middle_length p f q (omega arith) (omega arith), c.feed_end-filled.ensures.total_value)
-
-pub feed_end-requires-2 : goal.feed_end-requires-2
-feed_end-requires-2 c =
-    let p = c.args.piece.now in
-    let f = c.to_fill-first.result in
-    let q = c.end_of_blocks-last.result in
-    omega (
-      arith,
-      length-take-le f p (omega arith),
-      middle_length p f q (omega arith) (omega arith),
-      middle_length p q (length p) (omega arith) (omega arith),
-      c.feed_end-filled.ensures.total_value,
-      c.feed_blocks-whole.ensures.total_value,
-    )
 
 pub returns : goal.returns
 returns c =

@@ -1,21 +1,20 @@
-use borrow.Author.Tests.{eq-eqb, ne_eqb}
-use mathlib.Core.Logic.{inl}
+use mathlib.Core.Logic.{inl, inr}
 use mathlib.Core.Path.{refl}
-use Rattle.steps.proofs.StageLaws.{table_own, first_own, second_among, one_begun, two_begun}
+use Rattle.steps.proofs.StageLaws.{table_own, first_own, one_begun, two_begun}
 use borrow.Author.Rules.{rules}
 use Rattle.steps.proofs.beginning.stage_image.Goals as goal
 
 pub begin_tree-requires : goal.begin_tree-requires
 begin_tree-requires c = (search (rules, table_own), inl refl)
 
-pub begin_tree-requires-then-c-eq2 : goal.begin_tree-requires-then-c-eq2
-begin_tree-requires-then-c-eq2 c = (
+pub begin_tree-requires-in-Some : goal.begin_tree-requires-in-Some
+begin_tree-requires-in-Some c = (
   first_own c.args.image.now c.args.c c.requires.1 c.args.space c.requires.0 _ _ c.stage_table.ensures c.begin_tree.ensures,
-  second_among c.args.image.now c.args.c c.requires.1 c.args.space c.requires.0 c.if-c-eq2.true,
+  inr c.in-Some.is,
 )
 
-pub returns-then-c-eq2 : goal.returns-then-c-eq2
-returns-then-c-eq2 c = two_begun c.args.image.now c.args.c c.requires.1 c.args.space c.requires.0 c.stage_table.new.image c.begin_tree.new.image _ c.stage_table.ensures c.begin_tree.ensures c.begin_tree-then-c-eq2.ensures (eq-eqb _ 2 c.if-c-eq2.true)
+pub returns-in-Some : goal.returns-in-Some
+returns-in-Some c = two_begun c.args.image.now c.args.c c.requires.1 c.args.space c.requires.0 c.stage_table.new.image c.begin_tree.new.image _ c.stage_table.ensures c.begin_tree.ensures c.in-Some.b c.in-Some.is c.begin_tree-in-Some.ensures
 
-pub returns-else-c-eq2 : goal.returns-else-c-eq2
-returns-else-c-eq2 c = one_begun c.args.image.now c.args.c c.requires.1 c.args.space c.requires.0 c.stage_table.new.image _ c.stage_table.ensures c.begin_tree.ensures (ne_eqb _ 2 c.if-c-eq2.false)
+pub returns-in_default : goal.returns-in_default
+returns-in_default c = one_begun c.args.image.now c.args.c c.requires.1 c.args.space c.requires.0 c.stage_table.new.image _ c.stage_table.ensures c.begin_tree.ensures c.in_default.is

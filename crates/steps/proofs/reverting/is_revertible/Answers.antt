@@ -1,4 +1,6 @@
-use mathlib.Core.Path.{◌≡◌, sym, ◌∙◌}
+use mathlib.Core.Bool.{true, false}
+use mathlib.Core.Path.{◌≡◌, sym, ap, ◌∙◌}
+use Rattle.std.specs.Result.{is_ok}
 use lib.ListN.{length}
 use Rattle.number.specs.Ranges.{part}
 use Rattle.steps.proofs.RevertLaws.{header_changed, header_same}
@@ -12,12 +14,20 @@ returns-then-not-same_bytes c =
     header_changed c.args.image.now c.args.former c.args.later
     (sym c.same_bytes.ensures ∙ c.if-not-same_bytes.true)
 
--- src/reverting.rt:22:1
-pub returns : goal.returns
+pub returns-in-Ok : goal.returns-in-Ok
 unfolding part
-returns c =
+returns-in-Ok c =
     let full : length c.args.former ≡ 0x100 = search rules in
     header_same c.args.image.now c.args.former c.args.later
     (sym c.same_bytes.ensures ∙ c.if-not-same_bytes.false)
     c.requires full c.open_under.result c.open_under.ensures
-    c.is_valid.result c.is_valid.ensures
+    true (sym (ap is_ok c.in-Ok.is))
+
+pub returns-in-Err : goal.returns-in-Err
+unfolding part
+returns-in-Err c =
+    let full : length c.args.former ≡ 0x100 = search rules in
+    header_same c.args.image.now c.args.former c.args.later
+    (sym c.same_bytes.ensures ∙ c.if-not-same_bytes.false)
+    c.requires full c.open_under.result c.open_under.ensures
+    false (sym (ap is_ok c.in-Err.is))

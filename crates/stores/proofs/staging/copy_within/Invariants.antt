@@ -1,12 +1,8 @@
 -- Each store is at a free place, and after i of them i bytes are copied. Assumes nothing.
 use Rattle.number.specs.Bytes.{copied}
 use lib.ListN.{length}
-use Prim.Native.Nat.{◌≤◌, ◌-◌}
 use mathlib.Core.Path.{◌≡◌}
 use Rattle.stores.proofs.staging.copy_within.Given as goal
 
 abbrev pub invariant-loop-i : goal.invariant-loop-i
-invariant-loop-i l = (l.i ≤ l.n) × (l.image ≡ copied l.initial.image l.source l.target l.i) × (length l.image ≡ length l.initial.image)
-
-abbrev pub decreases-loop-i : goal.decreases-loop-i
-decreases-loop-i l = l.n - l.i
+invariant-loop-i l = (l.image ≡ copied l.initial.image l.source l.target l.i) × (length l.image ≡ length l.initial.image)

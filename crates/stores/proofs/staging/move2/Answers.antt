@@ -6,17 +6,21 @@ use lib.ListN.{length}
 use native.Mathlib.Omega.{arith}
 use Rattle.stores.proofs.staging.move2.Goals as goal
 
+pub invariant_of-live_half : goal.invariant_of-live_half
+invariant_of-live_half c = record { placed = ∣ own_placed c.args.space c.args.image.now c.requires.0 c.args.tree c.requires.1 ∣₁ }
+
 pub copy2-live-requires : goal.copy2-live-requires
 copy2-live-requires c =
     let a = c.args in
-    let w = own_placed a.space a.image.now c.requires.0 a.tree c.requires.1 in
-    (w, bit_inside1 a.tree (length a.image.now) w a.j c.requires.2)
+    bit_inside1 a.tree (length a.image.now) (own_placed a.space a.image.now c.requires.0 a.tree c.requires.1) a.j c.requires.2
+
+pub invariant_of-other_half : goal.invariant_of-other_half
+invariant_of-other_half c = record { placed = ∣ own_placed c.args.space c.args.image.now c.requires.0 c.args.tree c.requires.1 ∣₁ }
 
 pub copy2-staged-requires : goal.copy2-staged-requires
 copy2-staged-requires c =
     let a = c.args in
-    let w = own_placed a.space a.image.now c.requires.0 a.tree c.requires.1 in
-    (w, bit_inside1 a.tree (length a.image.now) w a.j c.requires.2)
+    bit_inside1 a.tree (length a.image.now) (own_placed a.space a.image.now c.requires.0 a.tree c.requires.1) a.j c.requires.2
 
 pub place_of-at-requires : goal.place_of-at-requires
 place_of-at-requires c =

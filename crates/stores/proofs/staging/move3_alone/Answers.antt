@@ -5,23 +5,30 @@ use Rattle.dpfs.proofs.LevelLaws.{bit_inside2}
 use lib.ListN.{length}
 use Rattle.stores.proofs.staging.move3_alone.Goals as goal
 
+pub invariant_of-live_half : goal.invariant_of-live_half
+invariant_of-live_half c =
+    let a = c.args in
+    record { placed = ∣ own_placed a.space a.image.now c.requires.own_space.0 a.tree c.requires.own_space.1 ∣₁ }
+
+pub invariant_of-other_half : goal.invariant_of-other_half
+invariant_of-other_half c =
+    let a = c.args in
+    record { placed = ∣ own_placed a.space a.image.now c.requires.own_space.0 a.tree c.requires.own_space.1 ∣₁ }
+
 pub copy3-live-requires : goal.copy3-live-requires
 copy3-live-requires c =
     let a = c.args in
-    let w = own_placed a.space a.image.now c.requires.own_space.0 a.tree c.requires.own_space.1 in
-    (w, bit_inside2 a.tree (length a.image.now) w a.b c.requires.own_space.2)
+    bit_inside2 a.tree (length a.image.now) (own_placed a.space a.image.now c.requires.own_space.0 a.tree c.requires.own_space.1) a.b c.requires.own_space.2
 
 pub copy3-staged-requires : goal.copy3-staged-requires
 copy3-staged-requires c =
     let a = c.args in
-    let w = own_placed a.space a.image.now c.requires.own_space.0 a.tree c.requires.own_space.1 in
-    (w, bit_inside2 a.tree (length a.image.now) w a.b c.requires.own_space.2)
+    bit_inside2 a.tree (length a.image.now) (own_placed a.space a.image.now c.requires.own_space.0 a.tree c.requires.own_space.1) a.b c.requires.own_space.2
 
 pub bit_place-at-requires : goal.bit_place-at-requires
 bit_place-at-requires c =
     let a = c.args in
-    let w = own_placed a.space a.image.now c.requires.own_space.0 a.tree c.requires.own_space.1 in
-    (w, bit_inside2 a.tree (length a.image.now) w a.b c.requires.own_space.2)
+    bit_inside2 a.tree (length a.image.now) (own_placed a.space a.image.now c.requires.own_space.0 a.tree c.requires.own_space.1) a.b c.requires.own_space.2
 
 pub move_block-requires : goal.move_block-requires
 move_block-requires c =

@@ -24,12 +24,18 @@ move3-requires c =
     let i = run_starts a.space a.tree a.image.now c.requires.0 c.requires.1 a.x a.values.now c.requires.2 c.requires.3 in
     (c.requires.0, c.requires.1, subst (λ (b : ℕ). b < blocks a.tree.level3) (sym c.block_of-b.ensures) (block_exists a.tree.level3 a.x i))
 
+pub invariant_of-other_half : goal.invariant_of-other_half
+invariant_of-other_half c =
+    let a = c.args in
+    let w = own_placed a.space a.image.now c.requires.0 a.tree c.requires.1 in
+    record { placed = ∣ subst (WellPlaced a.tree) (sym c.move3.auto.image) w ∣₁ }
+
 pub copy3-second-requires : goal.copy3-second-requires
 copy3-second-requires c =
     let a = c.args in
     let w = own_placed a.space a.image.now c.requires.0 a.tree c.requires.1 in
     let i = run_starts a.space a.tree a.image.now c.requires.0 c.requires.1 a.x a.values.now c.requires.2 c.requires.3 in
-    (subst (WellPlaced a.tree) (sym c.move3.auto.image) w, subst (λ (b : ℕ). bit_byte b < a.tree.level2.size) (sym c.block_of-b.ensures) (held2 a.tree _ w a.x i))
+    subst (λ (b : ℕ). bit_byte b < a.tree.level2.size) (sym c.block_of-b.ensures) (held2 a.tree _ w a.x i)
 
 pub place_of-requires : goal.place_of-requires
 place_of-requires c =

@@ -2,13 +2,10 @@
 use Rattle.dpfs.specs.Free.{Free}
 use Rattle.number.specs.Frame.{Keeps}
 use lib.Seq.{sets}
-use lib.ListN.{length, drop}
-use Prim.Native.Nat.{◌+◌, ◌≤◌, ◌-◌}
+use lib.ListN.{drop}
+use Prim.Native.Nat.{◌+◌}
 use mathlib.Core.Path.{◌≡◌}
 use Rattle.stores.proofs.staging.store_bytes.Given as goal
 
 abbrev pub invariant-loop-i : goal.invariant-loop-i
-invariant-loop-i l = (l.i ≤ length l.values) × Keeps (Free l.space l.initial.image) l.initial.image l.image × (sets l.image (l.x + l.i) (drop l.i l.values) ≡ sets l.initial.image l.x l.values)
-
-abbrev pub decreases-loop-i : goal.decreases-loop-i
-decreases-loop-i l = length l.values - l.i
+invariant-loop-i l = Keeps (Free l.space l.initial.image) l.initial.image l.image × (sets l.image (l.x + l.i) (drop l.i l.values) ≡ sets l.initial.image l.x l.values)

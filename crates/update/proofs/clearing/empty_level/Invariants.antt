@@ -1,14 +1,10 @@
 -- `empty_level` empties one block after another. The loop's invariant: those before b are. Assumes nothing.
 use mathlib.Core.Path.{◌≡◌}
 use Prim.Native.Nat.{◌≤◌, ◌-◌}
-use lib.ListN.{length}
 use Rattle.ivfc.specs.Views.{matches}
 use Rattle.update.proofs.ClearLaws.{all_emptied}
 use Rattle.update.proofs.clearing.empty_level.Given as goal
 
 abbrev pub invariant-loop-b : goal.invariant-loop-b
 invariant-loop-b l =
-    (l.from ≤ l.b) × (l.b - l.from ≤ l.end - l.from) × (length l.image ≡ length l.initial.image) × (l.image ≡ all_emptied l.view (matches l.view l.initial.image l.i) l.i l.from (l.b - l.from) l.initial.image)
-
-abbrev pub decreases-loop-b : goal.decreases-loop-b
-decreases-loop-b l = l.end - l.b
+    (l.b - l.from ≤ l.end - l.from) × (l.image ≡ all_emptied l.view (matches l.view l.initial.image l.i) l.i l.from (l.b - l.from) l.initial.image)

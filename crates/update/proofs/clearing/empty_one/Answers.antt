@@ -5,9 +5,11 @@ use Rattle.update.proofs.StagedLaws.{staged}
 use Rattle.update.proofs.ClearLaws.{one_stays, one_emptied}
 use Rattle.update.proofs.clearing.empty_one.Goals as goal
 
+pub invariant_of-reader : goal.invariant_of-reader
+invariant_of-reader c = record { rules = ∣ (staged c.requires.0).rules ∣₁ }
+
 pub block_matches-requires : goal.block_matches-requires
-block_matches-requires c =
-    ((staged c.requires.0).rules, c.requires.1, c.requires.2, c.requires.3)
+block_matches-requires c = (c.requires.1, c.requires.2, c.requires.3)
 
 pub returns-then-not-block_matches : goal.returns-then-not-block_matches
 returns-then-not-block_matches c =

@@ -7,10 +7,10 @@ pub returns-then-q-eq0 : goal.returns-then-q-eq0
 unfolding partition_of
 returns-then-q-eq0 c = rw (partition_of, eq-eqb _ _ c.if-q-eq0.true)
 
-pub returns-in-Missing : goal.returns-in-Missing
+pub returns-in-None : goal.returns-in-None
 unfolding partition_of
-returns-in-Missing c = rw (partition_of, ne_eqb _ _ c.if-q-eq0.false, c.in-Missing.is)
+returns-in-None c = rw (partition_of, ne_eqb _ _ c.if-q-eq0.false, c.in-None.is)
 
-pub returns-in-There : goal.returns-in-There
+pub returns-in-Some : goal.returns-in-Some
 unfolding partition_of
-returns-in-There c = rw (partition_of, ne_eqb _ _ c.if-q-eq0.false, c.in-There.is)
+returns-in-Some c = rw (partition_of, ne_eqb _ _ c.if-q-eq0.false, c.in-Some.is)

@@ -17,10 +17,10 @@ decreases-list_folders l = unvisited l.s.folders l.folder_marks.now + unvisited 
 
 abbrev pub invariant-list_folders-loop-e : goal.invariant-list_folders-loop-e
 invariant-list_folders-loop-e l =
-    (length l.known ≡ length l.initial.known) × (length l.folder_marks ≡ length l.initial.folder_marks) × (length l.file_marks ≡ length l.initial.file_marks) × (length l.row ≡ length l.initial.row) × Knows l.view l.image l.known
+    (length l.known ≡ length l.initial.known) × (length l.folder_marks ≡ length l.initial.folder_marks) × (length l.file_marks ≡ length l.initial.file_marks) × (length l.row ≡ length l.initial.row) × Knows l.reader.view l.reader.image.now l.known
     × (l.n + unvisited l.s.folders l.folder_marks + unvisited l.s.files l.file_marks ≡ l.met + unvisited l.s.folders l.initial.folder_marks + unvisited l.s.files l.initial.file_marks)
     × (unvisited l.s.folders l.folder_marks ≤ unvisited l.s.folders l.initial.folder_marks) × (unvisited l.s.files l.file_marks ≤ unvisited l.s.files l.initial.file_marks)
-    × Reaches l.s (version_of l.view l.image).bytes l.met l.initial.folder_marks l.initial.file_marks l.initial.row (folders l.s (version_of l.view l.image).bytes (version_of l.view l.image).verified l.depth) l.first l.folder_marks l.file_marks l.row l.e l.n
+    × Reaches l.s (version_of l.reader.view l.reader.image.now).bytes l.met l.initial.folder_marks l.initial.file_marks l.initial.row (folders l.s (version_of l.reader.view l.reader.image.now).bytes (version_of l.reader.view l.reader.image.now).verified l.depth) l.first l.folder_marks l.file_marks l.row l.e l.n
 
 abbrev pub decreases-list_folders-loop-e : goal.decreases-list_folders-loop-e
 decreases-list_folders-loop-e l = unvisited l.s.folders l.folder_marks

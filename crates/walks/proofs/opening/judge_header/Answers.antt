@@ -8,20 +8,17 @@ use Rattle.views.proofs.VersionLaws.{version_size}
 use Rattle.walks.proofs.opening.judge_header.Goals as goal
 
 pub gather-requires : goal.gather-requires
-gather-requires c = (c.requires.0.rules, omega arith, rw (level4_is c.args.view) c.requires.1)
-
-pub save_of-requires : goal.save_of-requires
-save_of-requires c = (c.requires.0.rules, sym c.well_formed-2.ensures ∙ c.if-well_formed.true)
+gather-requires c = (omega arith, rw (level4_is c.args.reader.view) c.requires.1)
 
 pub read_entries-requires : goal.read_entries-requires
 read_entries-requires c =
-    let a = entries_ask _ (version_of c.args.view c.args.image.now).bytes c.args.view.level4.log c.args.view.level4.size _ c.save_of.ensures (sym c.well_formed-2.ensures ∙ c.if-well_formed.true) in
+    let a = entries_ask _ (version_of c.args.reader.view c.args.reader.image.now).bytes c.args.reader.view.level4.log c.args.reader.view.level4.size _ c.save_of.ensures (sym c.well_formed-2.ensures ∙ c.if-well_formed.true) in
     (c.requires.0, a.0, a.1, a.2)
 
 pub returns-then-well_formed : goal.returns-then-well_formed
 returns-then-well_formed c =
-    (c.read_entries.ensures.0 ∙ judged_yes (version_of c.args.view c.args.image.now).bytes (version_of c.args.view c.args.image.now).verified c.args.view.level4.log c.args.view.level4.size (version_size c.args.view c.args.image.now) _ _ _ (c.gather.ensures ∙ header_is c.args.view c.args.image.now c.requires.1) c.well_formed-2.ensures c.if-well_formed.true c.save_of.ensures, c.read_entries.ensures.1)
+    (c.read_entries.ensures.0 ∙ judged_yes (version_of c.args.reader.view c.args.reader.image.now).bytes (version_of c.args.reader.view c.args.reader.image.now).verified c.args.reader.view.level4.log c.args.reader.view.level4.size (version_size c.args.reader.view c.args.reader.image.now) _ _ _ (c.gather.ensures ∙ header_is c.args.reader.view c.args.reader.image.now c.requires.1) c.well_formed-2.ensures c.if-well_formed.true c.save_of.ensures, c.read_entries.ensures.1)
 
 pub returns-else-well_formed : goal.returns-else-well_formed
 returns-else-well_formed c =
-    (judged_no (version_of c.args.view c.args.image.now).bytes (version_of c.args.view c.args.image.now).verified c.args.view.level4.log c.args.view.level4.size (version_size c.args.view c.args.image.now) _ _ (c.gather.ensures ∙ header_is c.args.view c.args.image.now c.requires.1) c.well_formed-2.ensures c.if-well_formed.false, c.requires.0.knows)
+    (judged_no (version_of c.args.reader.view c.args.reader.image.now).bytes (version_of c.args.reader.view c.args.reader.image.now).verified c.args.reader.view.level4.log c.args.reader.view.level4.size (version_size c.args.reader.view c.args.reader.image.now) _ _ (c.gather.ensures ∙ header_is c.args.reader.view c.args.reader.image.now c.requires.1) c.well_formed-2.ensures c.if-well_formed.false, c.requires.0)

@@ -1,25 +1,18 @@
 -- `walks::opening::open_save` meets its contract. Assumes nothing.
 use mathlib.Core.Path.{◌∙◌}
-use native.Mathlib.Omega.{arith}
+use Rattle.std.proofs.lemmas.Result.{err_from_is_err_and}
 use Rattle.views.specs.Versions.{version_of}
 use Rattle.names.proofs.OpenLaws.{open_short, open_long}
 use Rattle.views.proofs.VersionLaws.{version_size}
 use Rattle.walks.proofs.opening.open_save.Goals as goal
 
-pub returns-then-view : goal.returns-then-view
-returns-then-view c = (open_short (version_of c.args.view c.args.image.now).bytes (version_of c.args.view c.args.image.now).verified c.args.view.level4.log c.args.view.level4.size (version_size c.args.view c.args.image.now) c.if-view.true, c.requires.knows)
+pub returns-then-reader : goal.returns-then-reader
+returns-then-reader c = (open_short (version_of c.args.reader.view c.args.reader.image.now).bytes (version_of c.args.reader.view c.args.reader.image.now).verified c.args.reader.view.level4.log c.args.reader.view.level4.size (version_size c.args.reader.view c.args.reader.image.now) c.if-reader.true, c.requires)
 
-pub read_at-header-requires : goal.read_at-header-requires
-read_at-header-requires c = (c.requires, omega arith, omega (arith, c.if-view.false))
+pub returns-in_err-read_at : goal.returns-in_err-read_at
+returns-in_err-read_at c =
+    let p = err_from_is_err_and c.from_residual.result c.from_residual.ensures.1 in
+    rw (p.1, p.2) (open_long (version_of c.args.reader.view c.args.reader.image.now).bytes (version_of c.args.reader.view c.args.reader.image.now).verified c.args.reader.view.level4.log c.args.reader.view.level4.size (version_size c.args.reader.view c.args.reader.image.now) _ _ c.if-reader.false c.read_at.ensures.0 c.in_err-read_at.was, c.read_at.ensures.1)
 
-pub judge_header-requires : goal.judge_header-requires
-judge_header-requires c = (record { rules = c.requires.rules; knows = c.read_at-header.ensures.1 }, c.if-view.false)
-
-pub returns-in-Invalid : goal.returns-in-Invalid
-returns-in-Invalid c = (open_long (version_of c.args.view c.args.image.now).bytes (version_of c.args.view c.args.image.now).verified c.args.view.level4.log c.args.view.level4.size (version_size c.args.view c.args.image.now) _ _ c.if-view.false c.read_at-header.ensures.0 c.in-Invalid.is, c.read_at-header.ensures.1)
-
-pub returns-in-Unverified : goal.returns-in-Unverified
-returns-in-Unverified c = (open_long (version_of c.args.view c.args.image.now).bytes (version_of c.args.view c.args.image.now).verified c.args.view.level4.log c.args.view.level4.size (version_size c.args.view c.args.image.now) _ _ c.if-view.false c.read_at-header.ensures.0 c.in-Unverified.is, c.read_at-header.ensures.1)
-
-pub returns-in-At : goal.returns-in-At
-returns-in-At c = (c.judge_header.ensures.0 ∙ open_long (version_of c.args.view c.args.image.now).bytes (version_of c.args.view c.args.image.now).verified c.args.view.level4.log c.args.view.level4.size (version_size c.args.view c.args.image.now) _ _ c.if-view.false c.read_at-header.ensures.0 c.in-At.is, c.judge_header.ensures.1)
+pub returns : goal.returns
+returns c = (c.judge_header.ensures.0 ∙ open_long (version_of c.args.reader.view c.args.reader.image.now).bytes (version_of c.args.reader.view c.args.reader.image.now).verified c.args.reader.view.level4.log c.args.reader.view.level4.size (version_size c.args.reader.view c.args.reader.image.now) _ _ c.if-reader.false c.read_at.ensures.0 c.in_ok-read_at.was, c.judge_header.ensures.1)

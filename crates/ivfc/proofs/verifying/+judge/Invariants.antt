@@ -1,5 +1,0 @@
--- `judge` calls itself for the blocks that hold the entries. The measure is the level number. Assumes nothing.
-use Rattle.ivfc.proofs.verifying.+judge.Given as goal
-
-abbrev pub decreases-judge : goal.decreases-judge
-decreases-judge l = l.i

@@ -1,6 +1,0 @@
-use Rattle.number.specs.Ranges.{placed, clear}
-use Rattle.number.proofs.ranges.four_placed.Goals as goal
-
-pub returns : goal.returns
-unfolding placed clear
-returns c = cc
