@@ -10,9 +10,9 @@ use lib.Bits.{xor_zero_r}
 use borrow.Author.Tests.{eq-eqb, ne_eqb, le-leb, lt-leb}
 use lib.Dec.{eqb}
 use lib.ListN.{length, get_or, set, take, drop, replicate, length-take, length-drop, length-append, get_or-eq_default}
-use lib.Seq.{take_at, drop_at, take_all, drop-append-le, take-append-le, length-take-le, drop-drop}
-use Rattle.std.proofs.lemmas.List.{drop-replicate, take-append-drop}
-use Rattle.number.proofs.ListLaws.{byte_over_zeros}
+use lib.Seq.{sets, take_at, drop_at, take_all, drop-append-le, take-append-le, length-take-le, drop-drop}
+use Rattle.std.proofs.lemmas.List.{take-append-drop}
+use Rattle.number.proofs.ListLaws.{over_zeros, byte_over_zeros}
 use Rattle.aes.specs.Field.{◌⊕◌}
 use Rattle.aes.specs.Aes.{xor, aes128}
 use Rattle.cmac.specs.Cmac.{shifted, Zero, doubled, K1, padding, blocks, flag, block_of, last_block, chained, cmac}
@@ -29,8 +29,8 @@ last_byte x h =
 
 -- ---- up to a block of bytes, and zeros after them
 
-pub fill_done : (t b : List ℕ) → b ≡ t → b ++ drop (length t) Zero ≡ t ++ replicate (16 - length t) 0
-fill_done t b e = ap₂ (λ (x y : List ℕ). x ++ y) e (drop-replicate (length t) 16 0)
+pub fill_done : (t b : List ℕ) → length t ≤ 16 → b ≡ sets Zero 0 t → b ≡ t ++ replicate (16 - length t) 0
+fill_done t b h e = e ∙ over_zeros 16 t h
 
 pub pad_done : (t b : List ℕ) → length t < 16 → b ≡ t ++ replicate (16 - length t) 0 → set b (length t) 0x80 ≡ padding t
 unfolding padding

@@ -8,6 +8,7 @@ ghost use Rattle.cmac.specs.Cmac as Spec;
 
 use aes::cipher::encrypt;
 use aes::state::xor;
+use number::runs::copy_into;
 
 pub mod subkeys;
 
@@ -17,7 +18,7 @@ fn filled(bytes: &[u8]) -> [u8; 16]
     ensures { result ≡ bytes.now ++ replicate (16 - length bytes.now) 0 }
 {
     let mut block = [0u8; 16];
-    block[..bytes.len()].copy_from_slice(bytes);
+    copy_into(&mut block, 0, bytes);
     block
 }
 

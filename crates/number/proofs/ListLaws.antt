@@ -8,10 +8,9 @@ use native.Mathlib.Nat.{add-zero, zero-add}
 use native.Mathlib.Numerals.{add-one}
 use native.Mathlib.Decide.{ℕ_discrete, dec_lt}
 use lib.ListN.{length, get_or, take, drop, set, replicate, length-set, length-take, length-drop, length-append, length-replicate, replicate-append-replicate, drop_of_length-le}
-use lib.Seq.{ext_get_or, get_or-take, get_or-drop, get_or-set_same, get_or-set_other, sets, sets-eq, length-sets, drop_at, take_at, set_at, take-nil, take_all}
+use lib.Seq.{ext_get_or, get_or-take, get_or-drop, get_or-set_same, get_or-set_other, sets, sets-eq, length-sets, drop-cons, drop_at, take_at, set_at, take-nil, take_all}
 use lib.Dec.{eqb}
-use Rattle.std.specs.Cmp.Lexicographic.{pointwise}
-use mathlib.Core.Bool.{true, ◌&&◌, true≢false}
+use mathlib.Core.Bool.{Bool, true, false, ◌&&◌, and_assoc, true≢false}
 use borrow.Author.Tests.{eq-eqb, eqb-true}
 use Rattle.number.specs.Bytes.{bytes, Outside, copied, same_bytes}
 use Rattle.number.proofs.Tests.{and_left, and_right}
@@ -223,13 +222,24 @@ same_is (x ∷ a) (y ∷ b) e =
     let q : a ≡ b = same_is a b (and_right (eqb x y) (same_bytes a b) e) in
     cc
 
--- as `==` of two slices tests them
-pub same_pointwise : (a b : List ℕ) → pointwise eqb a b ≡ same_bytes a b
+pub same_lengths : (a b : List ℕ) → (length a ≡ length b → ⊥) → same_bytes a b ≡ false
+same_lengths a b h = go (same_bytes a b) refl
+  where
+    go : (t : Bool) → same_bytes a b ≡ t → t ≡ false
+    go true e = absurd (h (ap length (same_is a b e)))
+    go false e = refl
+
+-- as a loop compares them: a byte, and what is left; at the end nothing is
+pub same_turn : (a b : List ℕ) (i : ℕ) (same : Bool) → i < length a → i < length b
+    → same && same_bytes (drop i a) (drop i b) ≡ (same && eqb (get_or a i 0) (get_or b i 0)) && same_bytes (drop (i + 1) a) (drop (i + 1) b)
 unfolding same_bytes
-same_pointwise [] [] = refl
-same_pointwise [] (y ∷ b) = refl
-same_pointwise (x ∷ a) [] = refl
-same_pointwise (x ∷ a) (y ∷ b) = ap (λ t. eqb x y && t) (same_pointwise a b)
+same_turn a b i same h k =
+    rw (add-one, drop-cons a i 0 h, drop-cons b i 0 k)
+    (sym (and_assoc same (eqb (get_or a i 0) (get_or b i 0)) (same_bytes (drop (suc i) a) (drop (suc i) b))))
+
+pub same_end : (a b : List ℕ) (i : ℕ) → length a ≡ length b → length a ≤ i → same_bytes (drop i a) (drop i b) ≡ true
+unfolding same_bytes
+same_end a b i e h = rw (drop_of_length-le a h, drop_of_length-le b {i = i} (omega arith))
 
 -- ---- stores and copies said as one
 
@@ -312,11 +322,6 @@ pub byte_over_zeros : (n : ℕ) (run : List ℕ) (v : ℕ) → length run < n
 byte_over_zeros n run v h =
     let e : n - length run ≡ suc (n - 1 - length run) = omega arith in
     rw e (set_at run 0 (replicate (n - 1 - length run) 0) v (length run) refl)
-
--- both at once, where the run is copied into the front
-pub front_over_zeros : (n : ℕ) (run now : List ℕ) (v : ℕ) → length run < n → now ≡ run
-    → set (now ++ drop (length run) (replicate n 0)) (length run) v ≡ run ++ v ∷ replicate (n - 1 - length run) 0
-front_over_zeros n run now v h e = rw (e, drop_zeros n (length run) (omega arith)) (byte_over_zeros n run v h)
 
 -- ---- runs that fill a list
 

@@ -5,7 +5,8 @@ ghost use Rattle.number.specs.Fields.{le32, le64};
 pub fn byte(s: &[u8], at: usize) -> u8
     ensures { result ≡ get_or s.now at 0 }
 {
-    s.get(at).copied().unwrap_or(0)
+    // No method of the library: the image is read by this, and tests/stores follows it into each function that it is lent to.
+    if at < s.len() { s[at] } else { 0 }
 }
 
 // N bytes from a place on.
