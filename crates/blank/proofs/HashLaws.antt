@@ -11,8 +11,8 @@ use lib.Seq.{sets, length-sets}
 use lib.Pow.{pow_mono}
 use Rattle.number.specs.declared.Level.{Level}
 use Rattle.number.specs.Blocks.{block_size, blocks, block_length}
-use Rattle.number.specs.Bytes.{bytes}
-use Rattle.number.proofs.ListLaws.{length_part, bytes_part, bytes_is, bytes_cong, sets_append, sets_out}
+use Rattle.number.specs.Bytes.{bytes, same_bytes}
+use Rattle.number.proofs.ListLaws.{length_part, bytes_part, bytes_is, bytes_cong, sets_append, sets_out, same_is}
 use Rattle.number.proofs.BlockLaws.{exists_byte, block_inside}
 use Rattle.sha256.specs.Sha256.{sha256}
 use Rattle.sha256.proofs.Laws.{length_sha256}
@@ -111,15 +111,15 @@ module _ (image : List ℕ) (from : ℕ) (l : Level) (b unit own : ℕ) (f : fro
       ∙ bytes_part image (from + x * unit) unit (omega arith)
 
   pub same_block : (r : Bool)
-      → (r ≡ true → take (from + b * unit - (from + b * unit - unit)) (drop (from + b * unit - unit) image)
-      ≡ take (from + b * unit + unit - (from + b * unit)) (drop (from + b * unit) image))
+      → r ≡ same_bytes (take (from + b * unit - (from + b * unit - unit)) (drop (from + b * unit - unit) image))
+      (take (from + b * unit + unit - (from + b * unit)) (drop (from + b * unit) image))
       → r ≡ true → block l seen b ≡ block l seen (b - 1)
   same_block r q t =
       let w : Former = former in
       let m : from + b * unit - (from + b * unit - unit) ≡ unit = omega arith in
       let n : from + b * unit + unit - (from + b * unit) ≡ unit = omega arith in
       let at : from + b * unit - unit ≡ from + (b - 1) * unit = omega arith in
-      part_of b w.whole ∙ ap (λ (k : ℕ). take k (drop (from + b * unit) image)) (sym n) ∙ sym (q t)
+      part_of b w.whole ∙ ap (λ (k : ℕ). take k (drop (from + b * unit) image)) (sym n) ∙ sym (same_is _ _ (sym q ∙ t))
       ∙ ap₂ (λ (k x : ℕ). take k (drop x image)) m at ∙ sym (part_of (b - 1) (omega arith))
 
 -- ---- the digests of a level, stored before it

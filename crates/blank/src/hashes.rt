@@ -14,7 +14,7 @@ use super::sizes::{hash1, hash2, hash3};
 use ivfc::matching::zero_entry;
 use number::Level;
 use number::blocks::{block_count, block_length, block_size};
-use number::runs::copy_into;
+use number::runs::{copy_into, same_bytes};
 use sha256::digest;
 
 // The size of a block of levels 3 and 4, the largest.
@@ -52,7 +52,7 @@ fn repeats(image: &[u8], from: u64, l: Level, b: u64) -> bool
     }
     let size = unit as usize;
     let start = (from + b * unit) as usize;
-    image[start - size..start] == image[start..start + size]
+    same_bytes(&image[start - size..start], &image[start..start + size])
 }
 
 // The digest of block b, where that of the block before it is at hand: an equal block is not hashed again. In a blank image all blocks of a hash
