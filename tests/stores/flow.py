@@ -57,12 +57,10 @@ class Flow:
             handed = frozenset(at for at, place in enumerate(one.arguments, 1) if place and self._carried(place))
             if any(self.function.kind_of(one.arguments[at - 1]) == ('pointer',) for at in handed):
                 raise Unknown(f'{self.function.name} hands on a pointer that is no reference: {one}')
-            if handed and (one.is_named or self.may_store(one, handed)):
+            if handed and not one.is_named:
+                raise Unknown(f'{self.function.name} hands the image to a method that its caller chooses: {one}')
+            if handed:
                 self.calls.append((one, handed))
-
-    def may_store(self, call, handed):
-        """Whether a call is handed a tainted value by whose type bytes may be stored to."""
-        return any(self.function.types.may_store(self.function.kind_of(call.arguments[at - 1])) for at in handed)
 
 
 class Flows:
@@ -77,11 +75,7 @@ class Flows:
             key = waiting.pop()
             if key not in self.flows:
                 self.flows[key] = Flow(program.function(key[0]), key[1])
-                waiting += [(call.callee, handed) for call, handed in self.flows[key].calls if self._followed(key, call, handed)]
-
-    def _followed(self, key, call, handed):
-        """A function of the kit that has bytes by `&` alone is not: that it leaves them alone is proved with it, at each of its steps."""
-        return not self.program.is_of_kit(call.callee) or self.flows[key].may_store(call, handed)
+                waiting += [(call.callee, handed) for call, handed in self.flows[key].calls]
 
     def stores(self):
         """The functions that store to the image, with their statements."""
@@ -101,7 +95,8 @@ class Flows:
         for key, flow in self.flows.items():
             for call, handed in flow.calls:
                 lent = [call.arguments[at - 1] for at in handed]
-                if flow.may_store(call, handed) or (call.callee, handed) in storing:
+                mutable = any(self.program.types.carries_mutable(flow.function.kind_of(place)) for place in lent)
+                if mutable or (call.callee, handed) in storing:
                     yield key, call, lent
 
     def links(self):

@@ -106,8 +106,8 @@ class Types:
         return [[with_types(field, kind[2]) for field in fields] for fields in variants], is_struct
 
     def holds(self, kind, wanted):
-        """Whether a value of a type is, or holds or leads to, one whose type is `wanted`: a type, or the words 'pointer', 'mutable' or 'bytes', a way to
-        store to bytes. Of a type that a caller chooses, a word is taken for granted; a type is seen at the caller, where it is that type."""
+        """Whether a value of a type is, or holds or leads to, one whose type is `wanted`: a type, or the words 'pointer' or 'mutable'. Of a type that a
+        caller chooses, a word is taken for granted; a type is seen at the caller, where it is that type."""
         if (kind, wanted) not in self.known:
             self.known[kind, wanted] = False
             self.known[kind, wanted] = self._is(kind, wanted) or any(self.holds(part, wanted) for part in self._parts(kind))
@@ -120,8 +120,6 @@ class Types:
             return kind[0] in ('pointer', 'reference')
         if wanted == 'mutable':
             return kind[0] == 'reference' and kind[1]
-        if wanted == 'bytes':
-            return kind[0] == 'pointer' or kind[0] == 'reference' and kind[1] and kind[2][0] in ('plain', 'array', 'param')
         return kind == wanted
 
     def _parts(self, kind):
@@ -144,9 +142,6 @@ class Types:
 
     def carries_mutable(self, kind):
         return self.holds(kind, 'mutable')
-
-    def may_store(self, kind):
-        return self.holds(kind, 'bytes')
 
     def step(self, kind, variant, step):
         """The type after one step from a place, and the variant that the place is then seen as."""
