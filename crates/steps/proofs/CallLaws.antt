@@ -28,8 +28,11 @@ use Rattle.steps.specs.Calls.{read_committed, is_verified, count_verified}
 use Rattle.steps.proofs.ReadLaws.{Leaves}
 
 -- the refusal that a call hands on
-pub refusal_is : (a : Result Container Refusal) (r x : Refusal) → a ≡ Err r → x ≡ refusal_of a → a ≡ Err x
-refusal_is a r x e h = e ∙ ap Err (sym (h ∙ ap refusal_of e))
+pub refusal_is : (a : Result Container Refusal) (r x : Refusal) → a ≡ Err r → x ≡ refusal_of a → x ≡ r
+refusal_is a r x e h = h ∙ ap refusal_of e
+
+pub refused_is : (a : Result Container Refusal) (r x : Refusal) → a ≡ Err r → x ≡ refusal_of a → a ≡ Err x
+refused_is a r x e h = e ∙ ap Err (sym (refusal_is a r x e h))
 
 module _ (image : List ℕ) (a : Result Container Refusal) (o : a ≡ opened image) where
   -- an image that opens keeps to what opening guarantees

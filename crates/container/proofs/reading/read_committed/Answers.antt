@@ -1,12 +1,12 @@
 -- `container::reading::read_committed` meets its contract. Assumes nothing.
 use mathlib.Core.Path.{sym, ◌∙◌}
 use Rattle.layout.proofs.AnswerLaws.{answers_and}
-use Rattle.steps.proofs.CallLaws.{refusal_is, places, committed_keeps, committed_unopened, committed_missing, committed_there}
+use Rattle.steps.proofs.CallLaws.{refused_is, places, committed_keeps, committed_unopened, committed_missing, committed_there}
 use Rattle.container.proofs.reading.read_committed.Goals as goal
 
 pub returns-in_default : goal.returns-in_default
 returns-in_default c =
-    answers_and (committed_unopened _ _ c.open-answer.ensures.case _ _ _ _ (refusal_is _ _ _ c.in_default.is c.refusal_of.ensures))
+    answers_and (committed_unopened _ _ c.open-answer.ensures.case _ _ _ _ (refused_is _ _ _ c.in_default.is c.refusal_of.ensures))
 
 pub returns-then-not-has_partition : goal.returns-then-not-has_partition
 returns-then-not-has_partition c =

@@ -1,13 +1,13 @@
 -- `container::reading::read_staged` meets its contract. Assumes nothing.
 use mathlib.Core.Path.{sym, ◌∙◌}
 use Rattle.layout.proofs.AnswerLaws.{answers_and}
-use Rattle.steps.proofs.CallLaws.{refusal_is}
+use Rattle.steps.proofs.CallLaws.{refused_is}
 use Rattle.steps.proofs.EnterLaws.{staged_refused, staged_missing, staged_there, staged_places, staged_keeps}
 use Rattle.container.proofs.reading.read_staged.Goals as goal
 
 pub returns-in_default : goal.returns-in_default
 returns-in_default c =
-    answers_and (staged_refused _ _ _ c.enter-answer.ensures _ (refusal_is _ _ _ c.in_default.is c.refusal_of.ensures) _ _ _)
+    answers_and (staged_refused _ _ _ c.enter-answer.ensures _ (refused_is _ _ _ c.in_default.is c.refusal_of.ensures) _ _ _)
 
 pub returns-then-not-has_partition : goal.returns-then-not-has_partition
 returns-then-not-has_partition c =

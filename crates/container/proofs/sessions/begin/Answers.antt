@@ -1,11 +1,11 @@
 use Rattle.steps.specs.Sessions.{nothing}
 use Rattle.views.proofs.FitLaws.{space_fits}
-use Rattle.steps.proofs.CallLaws.{refusal_is}
+use Rattle.steps.proofs.CallLaws.{refused_is}
 use Rattle.steps.proofs.SessionLaws.{begin_unopened, begin_busy, begin_done, valid, guaranteed}
 use Rattle.container.proofs.sessions.begin.Goals as goal
 
 pub returns-in_default : goal.returns-in_default
-returns-in_default c = begin_unopened c.args.image.now c.open-answer.result c.open-answer.ensures c.args.session _ (refusal_is _ _ _ c.in_default.is c.refusal_of.ensures) c.refused.result c.refused.ensures
+returns-in_default c = begin_unopened c.args.image.now c.open-answer.result c.open-answer.ensures c.args.session _ (refused_is _ _ _ c.in_default.is c.refusal_of.ensures) c.refused.result c.refused.ensures
 
 pub returns-then-session : goal.returns-then-session
 returns-then-session c = begin_busy c.args.image.now c.open-answer.result c.open-answer.ensures c.args.session c.in-Ok.c c.in-Ok.is c.if-session.true c.refused-then-session.result c.refused-then-session.ensures

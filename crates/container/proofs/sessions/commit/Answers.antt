@@ -1,6 +1,6 @@
 -- `container::sessions::commit` meets its contract. Assumes nothing.
 use Rattle.steps.specs.Calls.{commit}
-use Rattle.steps.proofs.CallLaws.{refusal_is}
+use Rattle.steps.proofs.CallLaws.{refused_is}
 use Rattle.steps.proofs.EnterLaws.{session_refused, session_goes_on, entered_well}
 use Rattle.steps.proofs.SessionLaws.{commit_done}
 use native.Mathlib.Omega.{arith}
@@ -8,7 +8,7 @@ use Rattle.container.proofs.sessions.commit.Goals as goal
 
 pub returns-in_default : goal.returns-in_default
 unfolding commit
-returns-in_default c = session_refused _ _ _ c.enter-answer.ensures _ (refusal_is _ _ _ c.in_default.is c.refusal_of.ensures) _ _ c.refused.ensures
+returns-in_default c = session_refused _ _ _ c.enter-answer.ensures _ (refused_is _ _ _ c.in_default.is c.refusal_of.ensures) _ _ c.refused.ensures
 
 pub header_of-header-requires : goal.header_of-header-requires
 header_of-header-requires c = (entered_well _ _ _ c.enter-answer.ensures _ c.in-Ok.is).shortest

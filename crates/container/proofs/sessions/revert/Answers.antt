@@ -1,6 +1,6 @@
 -- `container::sessions::revert` meets its contract. Assumes nothing.
 use Rattle.steps.specs.Calls.{revert_on, revert}
-use Rattle.steps.proofs.CallLaws.{refusal_is}
+use Rattle.steps.proofs.CallLaws.{refused_is}
 use Rattle.steps.proofs.EnterLaws.{back_refuses, back_goes_on, back_well}
 use Rattle.steps.proofs.SessionLaws.{revert_done}
 use mathlib.Core.Path.{refl}
@@ -8,7 +8,7 @@ use Rattle.container.proofs.sessions.revert.Goals as goal
 
 pub returns-in_default : goal.returns-in_default
 unfolding revert
-returns-in_default c = back_refuses _ _ _ c.enter_back-answer.ensures _ (refusal_is _ _ _ c.in_default.is c.refusal_of.ensures) _ _ c.refused.ensures
+returns-in_default c = back_refuses _ _ _ c.enter_back-answer.ensures _ (refused_is _ _ _ c.in_default.is c.refusal_of.ensures) _ _ c.refused.ensures
 
 pub store_header-requires : goal.store_header-requires
 store_header-requires c = (back_well _ _ _ c.enter_back-answer.ensures _ c.in-Ok.is).shortest

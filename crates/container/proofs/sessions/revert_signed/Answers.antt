@@ -1,7 +1,7 @@
 -- `container::sessions::revert_signed` meets its contract. Assumes nothing.
 use Rattle.signing.specs.Calls.{signed_header}
 use Rattle.steps.specs.Calls.{revert_by, revert_signed}
-use Rattle.steps.proofs.CallLaws.{refusal_is}
+use Rattle.steps.proofs.CallLaws.{refused_is}
 use Rattle.steps.proofs.EnterLaws.{back_refuses, back_goes_on, back_well}
 use Rattle.steps.proofs.SessionLaws.{reverter_unfit, revert_signed_lem}
 use mathlib.Core.Path.{refl}
@@ -9,7 +9,7 @@ use Rattle.container.proofs.sessions.revert_signed.Goals as goal
 
 pub returns-in_default : goal.returns-in_default
 unfolding revert_signed
-returns-in_default c = back_refuses _ _ _ c.enter_back-answer.ensures _ (refusal_is _ _ _ c.in_default.is c.refusal_of.ensures) _ _ c.refused.ensures
+returns-in_default c = back_refuses _ _ _ c.enter_back-answer.ensures _ (refused_is _ _ _ c.in_default.is c.refusal_of.ensures) _ _ c.refused.ensures
 
 pub store_signed-requires : goal.store_signed-requires
 store_signed-requires c = (back_well _ _ _ c.enter_back-answer.ensures _ c.in-Ok.is).shortest

@@ -1,6 +1,6 @@
 -- `container::sessions::write` meets its contract. Assumes nothing.
 use mathlib.Core.Path.{sym, ◌∙◌}
-use Rattle.steps.proofs.CallLaws.{refusal_is}
+use Rattle.steps.proofs.CallLaws.{refused_is}
 use Rattle.steps.proofs.EnterLaws.{session_refused, session_goes_on, entered_opens}
 use Rattle.steps.proofs.SessionLaws.{write_missing, write_there}
 use Rattle.steps.specs.Calls.{write}
@@ -10,7 +10,7 @@ use Rattle.container.proofs.sessions.write.Goals as goal
 
 pub returns-in_default : goal.returns-in_default
 unfolding write
-returns-in_default c = session_refused _ _ _ c.enter-answer.ensures _ (refusal_is _ _ _ c.in_default.is c.refusal_of.ensures) _ _ c.refused.ensures
+returns-in_default c = session_refused _ _ _ c.enter-answer.ensures _ (refused_is _ _ _ c.in_default.is c.refusal_of.ensures) _ _ c.refused.ensures
 
 pub returns-then-not-has_partition : goal.returns-then-not-has_partition
 unfolding write

@@ -1,7 +1,7 @@
 -- `list` meets its contract: the row is filled with the blocks that have no mark, which are the faults. Assumes nothing.
 use Rattle.std.proofs.Common.{List, sym, ap, ◌∙◌}
 use Rattle.layout.proofs.AnswerLaws.{answers, answers_and}
-use Rattle.steps.proofs.CallLaws.{refusal_is}
+use Rattle.steps.proofs.CallLaws.{refused_is}
 use Rattle.faults.specs.Faults.{row_after}
 use Rattle.faults.specs.declared.Fault.{Fault}
 use Rattle.faults.proofs.MarkedLaws.{unmarked_faults, unmarked_count, no_faults}
@@ -22,4 +22,4 @@ returns c =
 
 pub returns-in_default : goal.returns-in_default
 returns-in_default c =
-    answers_and (no_faults c.args.image.now c.args.row.now _ (sym c.open-answer.ensures ∙ refusal_is _ _ _ c.in_default.is c.refusal_of.ensures))
+    answers_and (no_faults c.args.image.now c.args.row.now _ (sym c.open-answer.ensures ∙ refused_is _ _ _ c.in_default.is c.refusal_of.ensures))

@@ -1,13 +1,13 @@
 -- `save::calls::find_file` meets its contract. Assumes nothing.
 use mathlib.Core.Path.{sym, ◌∙◌}
 use Rattle.layout.proofs.AnswerLaws.{answers}
-use Rattle.steps.proofs.CallLaws.{refusal_is, places, committed_keeps}
+use Rattle.steps.proofs.CallLaws.{refused_is, places, committed_keeps}
 use Rattle.save.proofs.CallLaws.{holds_there, find_unopened, find_other, find_there}
 use Rattle.save.proofs.calls.find_file.Goals as goal
 
 pub returns-in_default : goal.returns-in_default
 returns-in_default c =
-    answers (find_unopened c.args.image.now _ c.open-answer.ensures c.args.folder c.args.name.now _ (refusal_is _ _ _ c.in_default.is c.refusal_of.ensures))
+    answers (find_unopened c.args.image.now _ c.open-answer.ensures c.args.folder c.args.name.now _ (refused_is _ _ _ c.in_default.is c.refusal_of.ensures))
 
 pub returns-then-not-holds_save : goal.returns-then-not-holds_save
 returns-then-not-holds_save c =

@@ -1,13 +1,13 @@
 -- `save::calls::list_names` meets its contract. Assumes nothing.
 use mathlib.Core.Path.{sym, ◌∙◌}
 use Rattle.layout.proofs.AnswerLaws.{answers_and}
-use Rattle.steps.proofs.CallLaws.{refusal_is, places, committed_keeps}
+use Rattle.steps.proofs.CallLaws.{refused_is, places, committed_keeps}
 use Rattle.save.proofs.CallLaws.{holds_there, holds_internal, list_unopened, list_other, list_there}
 use Rattle.save.proofs.calls.list_names.Goals as goal
 
 pub returns-in_default : goal.returns-in_default
 returns-in_default c =
-    let n = answers_and (list_unopened c.args.image.now _ c.open-answer.ensures c.args.row.now _ (refusal_is _ _ _ c.in_default.is c.refusal_of.ensures)) in
+    let n = answers_and (list_unopened c.args.image.now _ c.open-answer.ensures c.args.row.now _ (refused_is _ _ _ c.in_default.is c.refusal_of.ensures)) in
     record { answer = n.0; names = n.1 }
 
 pub returns-then-not-holds_save : goal.returns-then-not-holds_save
