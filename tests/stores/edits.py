@@ -88,8 +88,8 @@ OTHER_STORES = [
     ('a loop over the bytes', BY_STAGE_IMAGE, in_begin('for byte in image.iter_mut() {', '    *byte = 0;', '}')),
     ('an image by another name', 'begin: the image is stored to by container::sessions::begin', {SESSIONS: [
         ('pub fn begin(image: &mut [u8]', 'pub fn begin(target: &mut [u8]'),
-        ('image.new (calls.begin image.old session) }\n{\n    let c = match open(image) {',
-         'target.new (calls.begin target.old session) }\n{\n    let c = match open(target) {'),
+        ('image.new (calls.begin image.old session) }\n{\n    let answer = open(image);',
+         'target.new (calls.begin target.old session) }\n{\n    let answer = open(target);'),
         ('    let header = header_of(image);\n' + BEGUN,
          lines('let header = header_of(target);', 'stage_image(space_of(c), c, target);', 'target[0] = 0;'))]}),
     ('a store at the boundary', 'begin: the image is stored to by gateway::teplovist_begin', {
@@ -142,11 +142,11 @@ OTHER_SPACES = [
                'let Ok(d) = super::reading::open(bytes) else {', '    return refused(session, Refusal::Stale);', '};',
                'stores::staging::store(space_of(d), image, 0, 0);')]}),
     ('a container of a part of the image', 'container::sessions::begin: is to open its image, whole and once', {SESSIONS: [(
-        'calls.begin image.old session) }\n{\n    let c = match open(image) {',
-        'calls.begin image.old session) }\n{\n    let c = match open(&image[1..]) {')]}),
+        'calls.begin image.old session) }\n{\n    let answer = open(image);',
+        'calls.begin image.old session) }\n{\n    let answer = open(&image[1..]);')]}),
     ('a session entered on a part of the image', 'container::sessions::write: is to open its image, whole and once', {SESSIONS: [(
-        'partition place bytes.now) }\n{\n    let c = match enter(image, session) {',
-        'partition place bytes.now) }\n{\n    let c = match enter(&image[1..], session) {')]}),
+        'partition place bytes.now) }\n{\n    let answer = enter(image, session);',
+        'partition place bytes.now) }\n{\n    let answer = enter(&image[1..], session);')]}),
     ('an entering that opens a part of the image', 'steps::entering::enter: is to open its image, whole and once', {ENTERING: [(
         'entered image.now session }\n{\n    let c = open(image)?;',
         'entered image.now session }\n{\n    let c = open(&image[1..])?;')]}),
@@ -236,7 +236,6 @@ OTHER_PLACES = [
 ]
 
 TWICE_BACK = 'revert: commits::store_header is to have the image from one call'
-ENTERED_BACK = ['let Ok(d) = enter_back(image, session) else {', '    return refused(session, Refusal::NothingToRevert);', '};']
 
 OTHER_REVERTS = [
     ('a revert that tries the former header by storing it', TWICE_BACK, {SESSIONS: [(RESTORED, lines(
@@ -245,13 +244,12 @@ OTHER_REVERTS = [
         '    return refused(session, Refusal::NothingToRevert);', '};'))]}),
     ('a revert that stores twice', TWICE_BACK, {SESSIONS: [after(RESTORED, 'store_header(image, former);')]}),
     ('a revert of two headers', TWICE_BACK, {SESSIONS: [before(RESTORED, 'store_header(image, [0u8; 256]);')]}),
-    ('a revert that commits before', 'revert reaches commits::switch_tables', {SESSIONS: [before(
-        RESTORED, *ENTERED_BACK, 'switch_tables(image, d);')]}),
+    ('a revert that commits before', 'revert reaches commits::switch_tables', {SESSIONS: [before(RESTORED, 'switch_tables(image, _c);')]}),
     ('a store by a revert itself', 'revert: the image is stored to by container::sessions::revert', {SESSIONS: [before(
         RESTORED, 'let value = image[0x300];', 'image[0x300] = value;')]}),
     ('a store by a revert, put back', 'revert: the image is stored to by stores::staging::store', {SESSIONS: [before(
-        RESTORED, *ENTERED_BACK, 'let at = layout::tables::inactive_range(d.header).offset;', 'let value = image[at as usize];',
-        'stores::staging::store(space_of(d), image, at, 0);', 'stores::staging::store(space_of(d), image, at, value);')]}),
+        RESTORED, 'let at = layout::tables::inactive_range(_c.header).offset;', 'let value = image[at as usize];',
+        'stores::staging::store(space_of(_c), image, at, 0);', 'stores::staging::store(space_of(_c), image, at, value);')]}),
     ('a signed revert that stores twice', 'revert_signed: commits::store_signed is to have the image from one call', {
         SESSIONS: [after(SIGNED_BACK, 'store_signed(image, restored, key, signer);')]}),
     ('a signed revert that stores the header before', 'revert_signed reaches commits::store_header', {

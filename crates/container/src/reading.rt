@@ -13,7 +13,7 @@ use ivfc::Reader;
 use layout::{Container, Refusal};
 use signing::Signer;
 use steps::Session;
-use steps::answers::has_partition;
+use steps::answers::{has_partition, refusal_of};
 use steps::entering::enter;
 use steps::viewing::{judge_block, read_view};
 use views::places::{committed_view, staged_view};
@@ -41,7 +41,10 @@ pub fn read_committed(
 ) -> Result<(), Refusal>
     ensures { (Answers outcome_says result (read_committed image.now partition place buffer.old).outcome) × (buffer.new ≡ (read_committed image.now partition place buffer.old).buffer) }
 {
-    let c = open(image)?;
+    let answer = open(image);
+    let Ok(c) = answer else {
+        return Err(refusal_of(answer));
+    };
     if !has_partition(c, partition) {
         return Err(Refusal::NoPartition);
     }
@@ -59,7 +62,10 @@ pub fn read_staged(
 ) -> Result<(), Refusal>
     ensures { (Answers outcome_says result (read_staged image.now session partition place buffer.old).outcome) × (buffer.new ≡ (read_staged image.now session partition place buffer.old).buffer) }
 {
-    let c = enter(image, session)?;
+    let answer = enter(image, session);
+    let Ok(c) = answer else {
+        return Err(refusal_of(answer));
+    };
     if !has_partition(c, partition) {
         return Err(Refusal::NoPartition);
     }
@@ -71,7 +77,10 @@ pub fn read_staged(
 pub fn verified(image: &[u8], partition: u64, block: u64) -> Result<bool, Refusal>
     ensures { Answers verdict_says result (is_verified image.now partition block) }
 {
-    let c = open(image)?;
+    let answer = open(image);
+    let Ok(c) = answer else {
+        return Err(refusal_of(answer));
+    };
     if !has_partition(c, partition) {
         return Err(Refusal::NoPartition);
     }
@@ -83,7 +92,10 @@ pub fn verified(image: &[u8], partition: u64, block: u64) -> Result<bool, Refusa
 pub fn count_verified(image: &[u8], partition: u64) -> Result<u64, Refusal>
     ensures { Answers count_says result (count_verified image.now partition) }
 {
-    let c = open(image)?;
+    let answer = open(image);
+    let Ok(c) = answer else {
+        return Err(refusal_of(answer));
+    };
     if !has_partition(c, partition) {
         return Err(Refusal::NoPartition);
     }

@@ -13,7 +13,7 @@ use layout::headers::header_of;
 use layout::opening::open;
 use signing::Signer;
 use signing::answers::{judge_header, judge_signer};
-use steps::answers::has_partition;
+use steps::answers::{has_partition, refusal_of};
 use steps::beginning::stage_image;
 use steps::entering::{enter, enter_back};
 use steps::writing::{idle_session, refused, write_partition};
@@ -31,9 +31,9 @@ pub fn new() -> Session
 pub fn begin(image: &mut [u8], session: Session) -> Step
     ensures { Stepped result image.new (calls.begin image.old session) }
 {
-    let c = match open(image) {
-        Ok(c) => c,
-        Err(refusal) => return refused(session, refusal),
+    let answer = open(image);
+    let Ok(c) = answer else {
+        return refused(session, refusal_of(answer));
     };
     if session.begun {
         return refused(session, Refusal::SessionState);
@@ -55,9 +55,9 @@ pub fn begin(image: &mut [u8], session: Session) -> Step
 pub fn write(image: &mut [u8], session: Session, partition: u64, place: u64, bytes: &[u8]) -> Step
     ensures { Stepped result image.new (calls.write image.old session partition place bytes.now) }
 {
-    let c = match enter(image, session) {
-        Ok(c) => c,
-        Err(refusal) => return refused(session, refusal),
+    let answer = enter(image, session);
+    let Ok(c) = answer else {
+        return refused(session, refusal_of(answer));
     };
     if !has_partition(c, partition) {
         return refused(session, Refusal::NoPartition);
@@ -69,9 +69,9 @@ pub fn write(image: &mut [u8], session: Session, partition: u64, place: u64, byt
 pub fn commit(image: &mut [u8], session: Session) -> Step
     ensures { Stepped result image.new (calls.commit image.old session) }
 {
-    let c = match enter(image, session) {
-        Ok(c) => c,
-        Err(refusal) => return refused(session, refusal),
+    let answer = enter(image, session);
+    let Ok(c) = answer else {
+        return refused(session, refusal_of(answer));
     };
     let header = header_of(image);
     switch_tables(image, c);
@@ -90,9 +90,9 @@ pub fn commit(image: &mut [u8], session: Session) -> Step
 pub fn commit_signed(image: &mut [u8], session: Session, key: [u8; 16], signer: Signer) -> Step
     ensures { Stepped result image.new (calls.commit_signed image.old session key signer) }
 {
-    let c = match enter(image, session) {
-        Ok(c) => c,
-        Err(refusal) => return refused(session, refusal),
+    let answer = enter(image, session);
+    let Ok(c) = answer else {
+        return refused(session, refusal_of(answer));
     };
     match judge_signer(image, signer) {
         Err(refusal) => refused(session, refusal),
@@ -116,10 +116,10 @@ pub fn commit_signed(image: &mut [u8], session: Session, key: [u8; 16], signer: 
 pub fn revert(image: &mut [u8], session: Session) -> Step
     ensures { Stepped result image.new (calls.revert image.old session) }
 {
-    match enter_back(image, session) {
-        Ok(_) => {}
-        Err(refusal) => return refused(session, refusal),
-    }
+    let answer = enter_back(image, session);
+    let Ok(_c) = answer else {
+        return refused(session, refusal_of(answer));
+    };
     let former = session.header;
     store_header(image, former);
     Step {
@@ -132,10 +132,10 @@ pub fn revert(image: &mut [u8], session: Session) -> Step
 pub fn revert_signed(image: &mut [u8], session: Session, key: [u8; 16], signer: Signer) -> Step
     ensures { Stepped result image.new (calls.revert_signed image.old session key signer) }
 {
-    match enter_back(image, session) {
-        Ok(_) => {}
-        Err(refusal) => return refused(session, refusal),
-    }
+    let answer = enter_back(image, session);
+    let Ok(_c) = answer else {
+        return refused(session, refusal_of(answer));
+    };
     let restored = session.header;
     match judge_header(restored, signer) {
         Err(refusal) => refused(session, refusal),

@@ -14,6 +14,7 @@ use layout::opening::open;
 use layout::{Container, Refusal};
 use number::blocks::block_count;
 use number::marks::is_marked;
+use steps::answers::refusal_of;
 
 // The partition and the level that come first.
 const A: u64 = 0;
@@ -103,7 +104,10 @@ fn list_all(c: Container, marks: &[u8], row: &mut [Fault]) -> usize
 pub fn list(image: &[u8], row: &mut [Fault]) -> Result<u64, Refusal>
     ensures { (Answers count_says result (count_faults image.now)) × (row.new ≡ row_after (faults image.now) row.old) }
 {
-    let c = open(image)?;
+    let answer = open(image);
+    let Ok(c) = answer else {
+        return Err(refusal_of(answer));
+    };
     let marks = judged(c, image);
     let count = list_all(c, &marks, row);
     Ok(count as u64)

@@ -8,6 +8,7 @@ use super::viewing::{find_in, holds_save, list_view};
 use ivfc::Reader;
 use layout::Refusal;
 use layout::opening::open;
+use steps::answers::refusal_of;
 use views::places::committed_view;
 
 // Lists the folders and files of a save into the row, as far as it has room, and answers how many there are.
@@ -15,7 +16,10 @@ pub fn list_names(image: &[u8], row: &mut [u8]) -> Result<u64, Refusal>
     ensures answer { Answers count_says result (list_names image.now row.old).answer }
     ensures names { row.new ≡ (list_names image.now row.old).row }
 {
-    let c = open(image)?;
+    let answer = open(image);
+    let Ok(c) = answer else {
+        return Err(refusal_of(answer));
+    };
     if !holds_save(c) {
         return Err(Refusal::NoSave);
     }
@@ -27,7 +31,10 @@ pub fn list_names(image: &[u8], row: &mut [u8]) -> Result<u64, Refusal>
 pub fn find_file(image: &[u8], folder: u64, name: &[u8; 16]) -> Result<Option<u64>, Refusal>
     ensures { Answers sought_says result (find_file image.now folder name.now) }
 {
-    let c = open(image)?;
+    let answer = open(image);
+    let Ok(c) = answer else {
+        return Err(refusal_of(answer));
+    };
     if !holds_save(c) {
         return Err(Refusal::NoSave);
     }

@@ -3,7 +3,7 @@ use Rattle.std.specs.Prelude.{Result, Ok, Err, Bool}
 use Prim.Native.Nat.{ℕ}
 use mathlib.Core.Bool.{true, false}
 use mathlib.Core.List.{List}
-use mathlib.Core.Path.{◌≡◌, sym, ◌∙◌}
+use mathlib.Core.Path.{◌≡◌, sym, ap, ◌∙◌}
 use lib.Dec.{ltb}
 use lib.ListN.{length}
 use borrow.Author.Tests.{ltb-true}
@@ -22,9 +22,17 @@ use Rattle.views.specs.Places.{partitions, committed_view}
 use Rattle.views.specs.Rules.{PlacesFit}
 use Rattle.views.proofs.PlaceLaws.{committed_rules}
 use Rattle.views.proofs.FitLaws.{places_fit}
+use Rattle.steps.specs.Rules.{refusal_of}
 use Rattle.steps.specs.Reading.{read_from, verdict_on, count_in}
 use Rattle.steps.specs.Calls.{read_committed, is_verified, count_verified}
 use Rattle.steps.proofs.ReadLaws.{Leaves}
+
+-- the refusal that a call hands on
+pub refusal_is : (a : Result Container Refusal) (r x : Refusal) → a ≡ Err r → x ≡ refusal_of a → x ≡ r
+refusal_is a r x e h = h ∙ ap refusal_of e
+
+pub refused_is : (a : Result Container Refusal) (r x : Refusal) → a ≡ Err r → x ≡ refusal_of a → a ≡ Err x
+refused_is a r x e h = e ∙ ap Err (sym (refusal_is a r x e h))
 
 module _ (image : List ℕ) (a : Result Container Refusal) (o : a ≡ opened image) where
   -- an image that opens keeps to what opening guarantees

@@ -1,26 +1,25 @@
 -- `container::reading::verified` meets its contract. Assumes nothing.
 use mathlib.Core.Path.{sym, ◌∙◌}
-use Rattle.layout.proofs.PassedUp.{passed_up}
 use Rattle.layout.proofs.AnswerLaws.{answers}
-use Rattle.steps.proofs.CallLaws.{places, committed_keeps, verdict_unopened, verdict_missing, verdict_there}
+use Rattle.steps.proofs.CallLaws.{refused_is, places, committed_keeps, verdict_unopened, verdict_missing, verdict_there}
 use Rattle.container.proofs.reading.verified.Goals as goal
 
-pub returns-in_err-c : goal.returns-in_err-c
-returns-in_err-c c =
-    answers (passed_up _ _ c.from_residual.ensures.1 ∙ verdict_unopened _ _ c.open.ensures.case _ _ _ c.in_err-c.was)
+pub returns-in_default : goal.returns-in_default
+returns-in_default c =
+    answers (verdict_unopened _ _ c.open-answer.ensures.case _ _ _ (refused_is _ _ _ c.in_default.is c.refusal_of.ensures))
 
 pub returns-then-not-has_partition : goal.returns-then-not-has_partition
 returns-then-not-has_partition c =
-    answers (verdict_missing _ _ c.open.ensures.case _ _ c.in_ok-c.was _ (sym c.has_partition.ensures ∙ c.if-not-has_partition.true))
+    answers (verdict_missing _ _ c.open-answer.ensures.case _ _ c.in-Ok.is _ (sym c.has_partition.ensures ∙ c.if-not-has_partition.true))
 
 pub committed_view-view-requires : goal.committed_view-view-requires
 committed_view-view-requires c =
-    places _ _ c.open.ensures.case _ _ c.in_ok-c.was (sym c.has_partition.ensures ∙ c.if-not-has_partition.false)
+    places _ _ c.open-answer.ensures.case _ _ c.in-Ok.is (sym c.has_partition.ensures ∙ c.if-not-has_partition.false)
 
 pub invariant_of-judge_block : goal.invariant_of-judge_block
 invariant_of-judge_block c =
-    record { rules = ∣ committed_keeps _ _ c.open.ensures.case _ _ c.in_ok-c.was (sym c.has_partition.ensures ∙ c.if-not-has_partition.false) _ c.committed_view-view.ensures ∣₁ }
+    record { rules = ∣ committed_keeps _ _ c.open-answer.ensures.case _ _ c.in-Ok.is (sym c.has_partition.ensures ∙ c.if-not-has_partition.false) _ c.committed_view-view.ensures ∣₁ }
 
 pub returns : goal.returns
 returns c =
-    answers (verdict_there _ _ c.open.ensures.case _ _ c.in_ok-c.was _ (sym c.has_partition.ensures ∙ c.if-not-has_partition.false) _ c.committed_view-view.ensures _ c.judge_block.ensures)
+    answers (verdict_there _ _ c.open-answer.ensures.case _ _ c.in-Ok.is _ (sym c.has_partition.ensures ∙ c.if-not-has_partition.false) _ c.committed_view-view.ensures _ c.judge_block.ensures)

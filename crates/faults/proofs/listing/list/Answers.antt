@@ -1,7 +1,7 @@
 -- `list` meets its contract: the row is filled with the blocks that have no mark, which are the faults. Assumes nothing.
 use Rattle.std.proofs.Common.{List, sym, ap, ◌∙◌}
-use Rattle.layout.proofs.PassedUp.{passed_up}
 use Rattle.layout.proofs.AnswerLaws.{answers, answers_and}
+use Rattle.steps.proofs.CallLaws.{refused_is}
 use Rattle.faults.specs.Faults.{row_after}
 use Rattle.faults.specs.declared.Fault.{Fault}
 use Rattle.faults.proofs.MarkedLaws.{unmarked_faults, unmarked_count, no_faults}
@@ -9,18 +9,17 @@ use Rattle.faults.proofs.RoomLaws.{searchable}
 use Rattle.faults.proofs.listing.list.Goals as goal
 
 pub list_all-count-requires : goal.list_all-count-requires
-list_all-count-requires c = searchable c.args.image.now c.in_ok-c.c (sym c.open.ensures ∙ c.in_ok-c.was)
+list_all-count-requires c = searchable c.args.image.now c.in-Ok.c (sym c.open-answer.ensures ∙ c.in-Ok.is)
 
 pub returns : goal.returns
 returns c =
     let image = c.args.image.now in
-    let opens = (sym c.open.ensures ∙ c.in_ok-c.was) in
+    let opens = (sym c.open-answer.ensures ∙ c.in-Ok.is) in
     let e = c.list_all-count.ensures in (
-      answers (unmarked_count image _ c.in_ok-c.c opens c.judged-marks.ensures c.list_all-count.result e.0),
-      e.1 ∙ ap (λ (l : List Fault). row_after l c.args.row.now) (unmarked_faults image _ c.in_ok-c.c opens c.judged-marks.ensures),
+      answers (unmarked_count image _ c.in-Ok.c opens c.judged-marks.ensures c.list_all-count.result e.0),
+      e.1 ∙ ap (λ (l : List Fault). row_after l c.args.row.now) (unmarked_faults image _ c.in-Ok.c opens c.judged-marks.ensures),
     )
 
-pub returns-in_err-c : goal.returns-in_err-c
-returns-in_err-c c =
-    let (a, b) = no_faults c.args.image.now c.args.row.now _ (sym c.open.ensures ∙ c.in_err-c.was) in
-    answers_and (passed_up _ _ c.from_residual.ensures.1 ∙ a, b)
+pub returns-in_default : goal.returns-in_default
+returns-in_default c =
+    answers_and (no_faults c.args.image.now c.args.row.now _ (sym c.open-answer.ensures ∙ refused_is _ _ _ c.in_default.is c.refusal_of.ensures))
