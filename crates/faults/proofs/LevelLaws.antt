@@ -89,7 +89,7 @@ unfolding All
 kept_every P [] x = kept_none P
 kept_every P (f ∷ l) x = kept_yes P f l x.0 ∙ ap (λ (m : List Fault). f ∷ m) (kept_every P l x.1)
 
-kept_nothing : (P : Fault → Bool) (l : List Fault) → All (λ (f : Fault). P f ≡ false) l → kept P l ≡ []
+pub kept_nothing : (P : Fault → Bool) (l : List Fault) → All (λ (f : Fault). P f ≡ false) l → kept P l ≡ []
 unfolding All
 kept_nothing P [] x = kept_none P
 kept_nothing P (f ∷ l) x = kept_no P f l x.0 ∙ kept_nothing P l x.1

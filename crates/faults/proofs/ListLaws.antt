@@ -76,6 +76,22 @@ partitions_more c q (suc n) =
 pub block_next : (q i b : ℕ) → blocks_from q i 0 (b + 1) ≡ blocks_from q i 0 b ++ (at q i b ∷ [])
 block_next q i b = ap (blocks_from q i 0) (add-one b) ∙ blocks_more q i 0 b ∙ ap (λ (x : ℕ). blocks_from q i 0 b ++ (at q i x ∷ [])) (omega arith)
 
+-- n blocks from the first on, and those up to block x
+blocks_split : (q i x n k : ℕ) → blocks_from q i x (n + k) ≡ blocks_from q i x n ++ blocks_from q i (x + n) k
+unfolding blocks_from
+blocks_split q i x zero k =
+    let z : 0 + k ≡ k = omega arith in
+    ap (blocks_from q i x) z ∙ ap (λ (y : ℕ). blocks_from q i y k) (omega arith)
+blocks_split q i x (suc n) k =
+    let s : suc n + k ≡ suc (n + k) = omega arith in
+    ap (blocks_from q i x) s ∙ ap (λ (l : List Fault). at q i x ∷ l) (blocks_split q i (suc x) n k)
+    ∙ ap (λ (y : ℕ). at q i x ∷ (blocks_from q i (suc x) n ++ blocks_from q i y k)) (omega arith)
+
+pub blocks_on : (q i b x : ℕ) → b ≤ x → blocks_from q i 0 x ≡ blocks_from q i 0 b ++ blocks_from q i b (x - b)
+blocks_on q i b x h =
+    let e : x ≡ b + (x - b) = omega arith in
+    ap (blocks_from q i 0) e ∙ blocks_split q i 0 b (x - b) ∙ ap (λ (y : ℕ). blocks_from q i 0 b ++ blocks_from q i y (x - b)) (omega arith)
+
 pub level_next : (c : Container) (q i : ℕ) → 1 ≤ i → levels_from c q 1 (i + 1 - 1) ≡ levels_from c q 1 (i - 1) ++ blocks_from q i 0 (blocks_in c q i)
 level_next c q i h =
     let e : i + 1 - 1 ≡ suc (i - 1) = omega arith in

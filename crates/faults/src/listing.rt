@@ -1,6 +1,8 @@
-// The list: the blocks without a mark go into the row, level by level, and each is counted. Nothing is hashed here.
-ghost use Rattle.std.specs.Prelude.{◌≡◌, ◌+◌, ◌<◌, ◌≤◌, length, slice_set};
+// The list: each next block without a mark is found, level by level, put into the row and counted. Nothing is hashed here.
+ghost use Rattle.std.specs.Prelude.{MatchOption, ◌≡◌, ℕ, ◌+◌, ◌-◌, ◌<◌, ◌≤◌, length, slice_set};
+ghost use Rattle.number.specs.Marks.{marked};
 ghost use Rattle.layout.specs.Refusals.{Answers, count_says};
+ghost use Rattle.ivfc.specs.Verified.{first_not};
 ghost use Rattle.views.specs.Places.{partitions};
 ghost use Rattle.views.specs.Rules.{PlacesFit};
 ghost use Rattle.faults.specs.Faults.{blocks_from, levels_from, all_blocks, kept, faults, count_faults, row_after};
@@ -8,12 +10,12 @@ ghost use Rattle.faults.specs.Marking.{blocks_in, most_blocks, is_unmarked, Sear
 ghost use Rattle.faults.specs.Listing.{Lists, Reaches};
 
 use super::judging::{judged, view_of};
+use super::marking::first_unmarked;
 use super::{Fault, LAST, Listed};
 use ivfc::gathering::level_of;
 use layout::opening::open;
 use layout::{Container, Refusal};
 use number::blocks::block_count;
-use number::marks::is_marked;
 use steps::answers::refusal_of;
 
 // The partition and the level that come first.
@@ -27,6 +29,23 @@ fn blocks_of(c: Container, q: u64, i: u64) -> u64
     ensures { result ≡ blocks_in c q i }
 {
     block_count(level_of(view_of(c, q), i))
+}
+
+// The next fault of level i of partition q from block b on, of the level's n blocks: the first that has no mark. `start` is the number of the level's
+// first block.
+fn next_fault(marks: &[u8], q: u64, i: u64, start: u64, b: u64, n: u64) -> Option<Fault>
+    requires { (b ≤ n) × (start + n ≤ most_blocks) }
+    ensures { let first = first_not (λ (x : ℕ). marked marks.now (start + x)) b (n - b) in MatchOption result (first ≡ n) (λ fault. (fault.partition ≡ q) × (fault.level ≡ i) × (fault.block ≡ first) × (b ≤ first) × (first < n)) }
+{
+    let block = first_unmarked(marks, start + b, start + n) - start;
+    if block < n {
+        return Some(Fault {
+            partition: q,
+            level: i,
+            block,
+        });
+    }
+    None
 }
 
 // Puts a fault into the record after those of the faults before it, if the row has one, and counts it in any case.
@@ -55,15 +74,11 @@ fn list_level(
 {
     let n = blocks_of(c, q, i);
     let mut faults = before.faults;
-    for b in 0..n {
-        if !is_marked(marks, before.blocks + b) {
-            let fault = Fault {
-                partition: q,
-                level: i,
-                block: b,
-            };
-            faults = report(row, faults, fault);
-        }
+    let mut b = 0;
+    // A `while`: each turn goes on behind the fault that was found.
+    while let Some(fault) = next_fault(marks, q, i, before.blocks, b, n) {
+        faults = report(row, faults, fault);
+        b = fault.block + 1;
     }
     Listed {
         blocks: before.blocks + n,
@@ -84,8 +99,8 @@ fn list_partition(c: Container, q: u64, marks: &[u8], row: &mut [Fault], before:
     listed
 }
 
-// Lists those of a container, and says how many there are.
-fn list_all(c: Container, marks: &[u8], row: &mut [Fault]) -> usize
+// Fills a row with the first blocks that have no mark, as far as it goes, and counts them all.
+pub fn fill(c: Container, marks: &[u8], row: &mut [Fault]) -> usize
     requires { Searchable c }
     ensures { (result ≡ length (kept (is_unmarked c marks.now) (all_blocks c))) × (row.new ≡ row_after (kept (is_unmarked c marks.now) (all_blocks c)) row.old) }
 {
@@ -109,6 +124,6 @@ pub fn list(image: &[u8], row: &mut [Fault]) -> Result<u64, Refusal>
         return Err(refusal_of(answer));
     };
     let marks = judged(c, image);
-    let count = list_all(c, &marks, row);
+    let count = fill(c, &marks, row);
     Ok(count as u64)
 }

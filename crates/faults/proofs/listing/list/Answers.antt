@@ -8,15 +8,15 @@ use Rattle.faults.proofs.MarkedLaws.{unmarked_faults, unmarked_count, no_faults}
 use Rattle.faults.proofs.RoomLaws.{searchable}
 use Rattle.faults.proofs.listing.list.Goals as goal
 
-pub list_all-count-requires : goal.list_all-count-requires
-list_all-count-requires c = searchable c.args.image.now c.in-Ok.c (sym c.open-answer.ensures ∙ c.in-Ok.is)
+pub fill-count-requires : goal.fill-count-requires
+fill-count-requires c = searchable c.args.image.now c.in-Ok.c (sym c.open-answer.ensures ∙ c.in-Ok.is)
 
 pub returns : goal.returns
 returns c =
     let image = c.args.image.now in
     let opens = (sym c.open-answer.ensures ∙ c.in-Ok.is) in
-    let e = c.list_all-count.ensures in (
-      answers (unmarked_count image _ c.in-Ok.c opens c.judged-marks.ensures c.list_all-count.result e.0),
+    let e = c.fill-count.ensures in (
+      answers (unmarked_count image _ c.in-Ok.c opens c.judged-marks.ensures c.fill-count.result e.0),
       e.1 ∙ ap (λ (l : List Fault). row_after l c.args.row.now) (unmarked_faults image _ c.in-Ok.c opens c.judged-marks.ensures),
     )
 

@@ -9,7 +9,7 @@ use native.Mathlib.Omega.{arith}
 use Rattle.faults.proofs.ListLaws.{none_there, partition_next}
 use Rattle.faults.proofs.NumberLaws.{number_start}
 use Rattle.faults.proofs.ListingLaws.{lists_none, lists_join, sets_front}
-use Rattle.faults.proofs.listing.list_all.Goals as goal
+use Rattle.faults.proofs.listing.fill.Goals as goal
 
 pub loop-q-init : goal.loop-q-init
 loop-q-init c =
