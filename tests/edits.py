@@ -29,8 +29,11 @@ def expectations(path):
 
 
 def enclosing(source, line):
-    """The function in which a line of a source stands. (An edit leaves every line where it is.)"""
-    names = [match[1] for match in map(FUNCTION.match, source.read_text(encoding='utf-8').splitlines()[:line]) if match]
+    """The function in which a line of a source stands, an attribute's before it too. (An edit leaves every line where it is.)"""
+    lines = source.read_text(encoding='utf-8').splitlines()
+    while lines[line - 1].startswith('#['):
+        line += 1
+    names = [match[1] for match in map(FUNCTION.match, lines[:line]) if match]
     return names[-1] if names else '(no function)'
 
 
