@@ -22,7 +22,7 @@ use views::places::committed_view;
 
 // The bytes that hold a mark for each block of an image: half of the largest image has room for 0x100000 entries of 32 bytes, and two master
 // hashes for 64 each.
-const MARKS: usize = 0x20010;
+pub const MARKS: usize = 0x20010;
 
 // The view that is judged: the list is that of the committed one.
 pub fn view_of(c: Container, q: u64) -> View
@@ -97,8 +97,8 @@ fn mark_view(reader: Reader<'_>, start: u64, marks: &mut [u8]) -> u64
     at
 }
 
-// Judges all partitions.
-fn mark_all(c: Container, image: &[u8], marks: &mut [u8])
+// Judges all partitions. The marks are lent, and not handed up: there are so many that a copy of them would be most of the stack that a call takes.
+pub fn mark_all(c: Container, image: &[u8], marks: &mut [u8])
     requires { (opened image.now ≡ Ok c) × (Free marks.old 0) × (most_blocks ≤ 8 * length marks.old) }
     ensures { Marked c image.now marks.new (partitions c) }
 {
@@ -107,14 +107,4 @@ fn mark_all(c: Container, image: &[u8], marks: &mut [u8])
         let view = view_of(c, q);
         number = mark_view(Reader { view, image }, number, marks);
     }
-}
-
-// The marks of the verified blocks of an image.
-pub fn judged(c: Container, image: &[u8]) -> [u8; MARKS]
-    requires { opened image.now ≡ Ok c }
-    ensures { Marked c image.now result (partitions c) }
-{
-    let mut marks = [0u8; MARKS];
-    mark_all(c, image, &mut marks);
-    marks
 }

@@ -9,7 +9,7 @@ ghost use Rattle.faults.specs.Faults.{blocks_from, levels_from, all_blocks, kept
 ghost use Rattle.faults.specs.Marking.{blocks_in, most_blocks, is_unmarked, Searchable};
 ghost use Rattle.faults.specs.Listing.{Lists, Reaches};
 
-use super::judging::{judged, view_of};
+use super::judging::{MARKS, mark_all, view_of};
 use super::marking::first_unmarked;
 use super::{Fault, LAST, Listed};
 use ivfc::gathering::level_of;
@@ -123,7 +123,8 @@ pub fn list(image: &[u8], row: &mut [Fault]) -> Result<u64, Refusal>
     let Ok(c) = answer else {
         return Err(refusal_of(answer));
     };
-    let marks = judged(c, image);
+    let mut marks = [0u8; MARKS];
+    mark_all(c, image, &mut marks);
     let count = fill(c, &marks, row);
     Ok(count as u64)
 }
