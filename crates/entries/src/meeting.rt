@@ -59,7 +59,9 @@ pub fn meet(
     Ok(n + 1)
 }
 
-// The four bytes at an offset of an entry.
+// The four bytes at an offset of an entry. A call of its own, also when it is optimised: in `list_folder` (walks), which calls itself a thousand deep, each
+// copy of it would take as much stack as a reader and more.
+#[inline(never)]
 pub fn field_of(reader: Reader<'_>, t: Table, e: u64, offset: u64) -> u64
     requires { place t e + offset + 4 ≤ reader.view.level4.size }
     ensures { result ≡ le32 (version_of reader.entry.view reader.entry.image.now).bytes (place t e + offset) }
