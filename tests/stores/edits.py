@@ -86,6 +86,8 @@ OTHER_STORES = [
     ('a function of a library of the kit', 'begin: the image is stored to by core::str::ascii::lowercase_in_place', in_begin(
         'image.make_ascii_lowercase();')),
     ('a loop over the bytes', BY_STAGE_IMAGE, in_begin('for byte in image.iter_mut() {', '    *byte = 0;', '}')),
+    ('a comparison by the library, of which some is by a method', 'hands the image to a method that its caller chooses', in_begin(
+        'if image[..8] == image[8..16] {', '    return;', '}')),
     ('an image by another name', 'begin: the image is stored to by container::sessions::begin', {SESSIONS: [
         ('pub fn begin(image: &mut [u8]', 'pub fn begin(target: &mut [u8]'),
         ('image.new (calls.begin image.old session) }\n{\n    let answer = open(image);',
