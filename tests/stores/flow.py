@@ -57,8 +57,6 @@ class Flow:
             handed = frozenset(at for at, place in enumerate(one.arguments, 1) if place and self._carried(place))
             if any(self.function.kind_of(one.arguments[at - 1]) == ('pointer',) for at in handed):
                 raise Unknown(f'{self.function.name} hands on a pointer that is no reference: {one}')
-            if handed and not one.is_named:
-                raise Unknown(f'{self.function.name} hands the image to a method that its caller chooses: {one}')
             if handed:
                 self.calls.append((one, handed))
 
@@ -75,7 +73,12 @@ class Flows:
             key = waiting.pop()
             if key not in self.flows:
                 self.flows[key] = Flow(program.function(key[0]), key[1])
-                waiting += [(call.callee, handed) for call, handed in self.flows[key].calls]
+                waiting += [self._followed(key[0], call, handed) for call, handed in self.flows[key].calls]
+
+    def _followed(self, name, call, handed):
+        if not call.is_named:
+            raise Unknown(f'{name} hands the image to a method that its caller chooses: {call}')
+        return call.callee, handed
 
     def stores(self):
         """The functions that store to the image, with their statements."""
