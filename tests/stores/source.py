@@ -112,8 +112,9 @@ class Reader:
 DEFINED = re.compile(r'^abbrev pub (\S+) : .*?^\1 =(?=\s)(.*?)(?=^abbrev |\Z)', re.M | re.S)
 USED = re.compile(r'^use (\S+?)(?: as (\S+))?$', re.M)
 
-# What `?` calls, which std hands on from core.
+# What `?` and a comparison of slices call, which std hands on from core.
 HANDED_ON = {f'std::prelude::{name}': f'core::result::{name}' for name in ('ResultTry::branch', 'ResultFromResidualErrResidual::from_residual')}
+HANDED_ON['std::prelude::RefSlicePartialEq::eq'] = 'core::cmp::slices::RefSlicePartialEq::eq'
 
 
 class Module:
