@@ -1,6 +1,6 @@
 #!/usr/bin/env bash
-# The stack that the calls with marks take is what include/teplovist.h says: tests/c/stack.c calls each on a thread that has no more. The listing goes
-# a thousand folders deep. On less than its marks the listing must fail, or the thread's size bounds nothing.
+# The stack that the calls with marks take is what include/teplovist.h says, and the fault list's half of it: tests/c/stack.c calls each on a thread that
+# has no more. The listing goes a thousand folders deep. On less than its marks the listing must fail, or the thread's size bounds nothing.
 set -eu -o pipefail
 cd "$(dirname "$0")/.."
 bash tests/archive

@@ -1,5 +1,6 @@
 /*
- * The stack that the calls with marks take: each is called on a thread that has as much as include/teplovist.h says, or as much as is given.
+ * The stack that the calls with marks take: each is called on a thread that has as much as include/teplovist.h says, the fault list on one that has
+ * half of that, or as much as is given.
  *
  * Usage: stack [CALL BYTES], where CALL is list_names, faults or find_file. Status 1 if an answer is wrong; a thread that has too little ends the program.
  */
@@ -71,7 +72,7 @@ static void *find_file(void *answer) {
     return NULL;
 }
 
-/* What the header says of each call's stack, and what the call is to answer. */
+/* How much stack each call is given, and what it is to answer. The fault list's marks take 131,088 bytes, once. */
 static const struct {
     const char *name;
     void *(*call)(void *);
